@@ -1,0 +1,81 @@
+-- Transactions and reads, and the step: the 15 calls as one function.
+use mathlib.Core.Bool.{not}
+use mathlib.Core.List.{List}
+use mathlib.Core.Option.{Option, none, some}
+use Prim.Native.Nat.{ℕ}
+use lib.ListN.{length, getD}
+use lib.Dec.{ltb, leb}
+use Rattle.model.specs.declared.Refusal.the-variants.{Malformed, WrongState, NothingThere}
+use Rattle.model.specs.Store.{Store, linesOf, rowsIn, isPrepared, noLine}
+use Rattle.model.specs.Read.{reading}
+use Rattle.model.specs.Rows.{rowAt}
+use Rattle.model.specs.Outcome.{refuseIf}
+use Rattle.model.specs.Prepare.{rowsFor, held}
+use Rattle.model.specs.Commit.{Run, Stop, committing, released}
+use Rattle.model.specs.Reply.{Call, Reply, _>>=_, _>>_, known}
+use Rattle.model.specs.Reply.Call.{start, addName, nameBytes, loadLoose, loadPacked, lockName, unlockName, lockPacked, unlockPacked, prepare, commit, rollback, readName, readLine, readRow}
+use Rattle.model.specs.Reply.Reply.{done, stopped}
+use Rattle.model.specs.Reply.Given.{number, value, line, row}
+use Rattle.model.specs.Load.{started, nameAdded, bytesGiven, looseLoaded, packedLoaded, placed, lifted}
+use Rattle.model.specs.Load.Lockable.{name, packedTable}
+
+-- ---- transactions
+
+-- prepare gives the row count
+unfoldable pub prepared : List ℕ → ℕ → Store → Reply
+prepared list mode s = do
+  p ← rowsFor list mode s
+  done (held p s) (number (length (p .rows)))
+
+abbrev pub ended : Run → Option Stop → Reply
+ended r none = done (released (r .store)) (number (r .made))
+ended r (some why) = stopped why (released (r .store)) (r .made)
+
+-- 15 while nothing is prepared, 2 a committer past 65,535. It reports the writes made
+unfoldable pub committed : ℕ → ℕ → Store → Reply
+committed committer allowance s = do
+  refuseIf (not (isPrepared (s .prepared))) WrongState
+  refuseIf (ltb 65535 committer) Malformed
+  let r : Run = committing (record { committer = committer }) allowance s in ended r (r .stop)
+
+-- rollback gives the row count, 0 with nothing prepared
+unfoldable pub rolledBack : Store → Reply
+rolledBack s = done (released s) (number (length (rowsIn (s .prepared))))
+
+-- ---- reads
+
+unfoldable pub nameRead : ℕ → Store → Reply
+nameRead n s = do
+  known n s
+  done s (value (reading s (record { 0 = n })))
+
+-- a log line by name and place among its lines
+unfoldable pub lineRead : ℕ → ℕ → Store → Reply
+lineRead n place s = do
+  known n s
+  refuseIf (leb (length (linesOf s (record { 0 = n }))) place) NothingThere
+  done s (line (getD (linesOf s (record { 0 = n })) place noLine))
+
+unfoldable pub rowRead : ℕ → Store → Reply
+rowRead place s = do
+  refuseIf (leb (length (rowsIn (s .prepared))) place) NothingThere
+  done s (row (rowAt (rowsIn (s .prepared)) place))
+
+-- ---- the step
+
+unfoldable pub step : Call → Store → Reply
+step (start k) s = started k
+step (addName bytes) s = nameAdded bytes s
+step (nameBytes n) s = bytesGiven n s
+step (loadLoose n kind x) s = looseLoaded n kind x s
+step (loadPacked n kind x) s = packedLoaded n kind x s
+step (lockName n) s = placed (name n) s
+step (unlockName n) s = lifted (name n) s
+step lockPacked s = placed packedTable s
+step unlockPacked s = lifted packedTable s
+step (prepare list mode) s = prepared list mode s
+step (commit committer allowance) s = committed committer allowance s
+step rollback s = rolledBack s
+step (readName n) s = nameRead n s
+step (readLine n place) s = lineRead n place s
+step (readRow place) s = rowRead place s

@@ -1,0 +1,31 @@
+-- How a name, an object and a target stand in a record or an answer: numbers. Total on every number.
+use Prim.Native.Nat.{ℕ, zero, suc}
+use mathlib.Core.Bool.{cond}
+use lib.Dec.{eqb, ltb}
+use Rattle.target.specs.declared.OptionName.{OptionName}
+use Rattle.target.specs.declared.OptionName.the-variants.{NoName, Name}
+use Rattle.target.specs.declared.OptionObject.{OptionObject}
+use Rattle.target.specs.declared.OptionObject.the-variants.{NoId, Id}
+use Rattle.target.specs.declared.Target.the-variants.{Object, Symbolic}
+use Rattle.target.specs.declared.OptionTarget.{OptionTarget}
+use Rattle.target.specs.declared.OptionTarget.the-variants.{Absent, Present}
+
+-- up to 256 names, numbered from 0
+abbrev pub nameOf : ℕ → OptionName
+nameOf n = cond (ltb n 256) (Name (record { 0 = n })) NoName
+
+-- 0 is the null id
+abbrev pub objectOf : ℕ → OptionObject
+objectOf n = cond (eqb n 0) NoId (Id (record { 0 = n }))
+
+-- the kind byte: 0 none, 1 object, 2 symbolic
+abbrev pub targetByte : OptionTarget → ℕ
+targetByte Absent = 0
+targetByte (Present (Object o)) = 1
+targetByte (Present (Symbolic n)) = 2
+
+-- the number beside it, 0 beside none
+abbrev pub targetNumber : OptionTarget → ℕ
+targetNumber Absent = 0
+targetNumber (Present (Object o)) = o .0
+targetNumber (Present (Symbolic n)) = n .0

@@ -1,0 +1,198 @@
+// Targets: what a name points to. The port of gix-ref's src/target.rs, by value.
+//
+// An object number stands for the Rust's ObjectId, a name number for its FullName. The planner has confused the two
+// counts before, so each is a type of its own. Option<T> becomes an enum for each T.
+ghost use mathlib.Core.Path.{_≡_};
+ghost use Rattle.target.specs.Target.{isNull, kindOf, tryId, tryName, same, sameName, sameObject, sameOption};
+ghost use Rattle.target.specs.Fields.{nameOf, objectOf, targetByte, targetNumber};
+
+// The number of a registered name, from 0 in order of arrival.
+pub struct NameNumber(pub u16);
+
+// What may be missing where a name is looked for: a found symbolic link, or Target::try_name.
+pub enum OptionName {
+    NoName,
+    Name(NameNumber),
+}
+
+impl NameNumber {
+    // 256 names, numbered from 0.
+    pub const LIMIT: u64 = 256;
+    // A name has 1 to 64 bytes.
+    pub const LONGEST: usize = 64;
+
+    // The name's number, from all 64 bits that a caller passed.
+    pub fn new(number: u64) -> OptionName
+        ensures { λ r. ⌜ r ≡ nameOf number ⌝ }
+    {
+        if number < NameNumber::LIMIT {
+            OptionName::Name(NameNumber(number as u16))
+        } else {
+            OptionName::NoName
+        }
+    }
+
+    pub fn eq(self, other: NameNumber) -> bool
+        ensures { λ r. ⌜ r ≡ sameName self other ⌝ }
+    {
+        self.0 == other.0
+    }
+}
+
+// The number of an object, 1 to 2^64-1. 0 is the null id and never a target.
+pub struct ObjectNumber(pub u64);
+
+// What may be missing where an object is looked for.
+pub enum OptionObject {
+    NoId,
+    Id(ObjectNumber),
+}
+
+impl ObjectNumber {
+    pub const NULL: u64 = 0;
+
+    // The object of a number, unless that is the null id.
+    pub fn new(number: u64) -> OptionObject
+        ensures { λ r. ⌜ r ≡ objectOf number ⌝ }
+    {
+        if number == ObjectNumber::NULL {
+            OptionObject::NoId
+        } else {
+            OptionObject::Id(ObjectNumber(number))
+        }
+    }
+
+    pub fn null() -> ObjectNumber
+        ensures { λ r. ⌜ r .0 ≡ 0 ⌝ }
+    {
+        ObjectNumber(ObjectNumber::NULL)
+    }
+
+    pub fn eq(self, other: ObjectNumber) -> bool
+        ensures { λ r. ⌜ r ≡ sameObject self other ⌝ }
+    {
+        self.0 == other.0
+    }
+}
+
+// The kind of a target.
+pub enum Kind {
+    Object,
+    Symbolic,
+}
+
+// An object, or a symbolic link to a registered name.
+pub enum Target {
+    Object(ObjectNumber),
+    Symbolic(NameNumber),
+}
+
+// What may be missing where a target is looked for: an existing target, or an expected one.
+pub enum OptionTarget {
+    Absent,
+    Present(Target),
+}
+
+impl Target {
+    pub fn kind(self) -> Kind
+        ensures { λ r. ⌜ r ≡ kindOf self ⌝ }
+    {
+        match self {
+            Target::Symbolic(_) => Kind::Symbolic,
+            Target::Object(_) => Kind::Object,
+        }
+    }
+
+    // True of the null id alone.
+    pub fn is_null(self) -> bool
+        ensures { λ r. ⌜ r ≡ isNull self ⌝ }
+    {
+        let OptionObject::Id(oid) = self.try_id() else {
+            return false;
+        };
+        oid.0 == ObjectNumber::NULL
+    }
+
+    pub fn try_id(self) -> OptionObject
+        ensures { λ r. ⌜ r ≡ tryId self ⌝ }
+    {
+        match self {
+            Target::Symbolic(_) => OptionObject::NoId,
+            Target::Object(oid) => OptionObject::Id(oid),
+        }
+    }
+
+    pub fn try_name(self) -> OptionName
+        ensures { λ r. ⌜ r ≡ tryName self ⌝ }
+    {
+        match self {
+            Target::Symbolic(name) => OptionName::Name(name),
+            Target::Object(_) => OptionName::NoName,
+        }
+    }
+
+    // Both objects of one number, or both links to one name.
+    pub fn eq(self, other: Target) -> bool
+        ensures { λ r. ⌜ r ≡ same self other ⌝ }
+    {
+        match self {
+            Target::Object(lhs) => match other {
+                Target::Object(rhs) => lhs.eq(rhs),
+                Target::Symbolic(_) => false,
+            },
+            Target::Symbolic(lhs) => match other {
+                Target::Object(_) => false,
+                Target::Symbolic(rhs) => lhs.eq(rhs),
+            },
+        }
+    }
+}
+
+// A target in a record or an answer: a kind byte and a number.
+impl OptionTarget {
+    pub const NONE: u64 = 0;
+
+    pub const OBJECT: u64 = 1;
+
+    pub const SYMBOLIC: u64 = 2;
+
+    pub fn byte(self) -> u64
+        ensures { λ r. ⌜ r ≡ targetByte self ⌝ }
+    {
+        let OptionTarget::Present(target) = self else {
+            return OptionTarget::NONE;
+        };
+        match target {
+            Target::Object(_) => OptionTarget::OBJECT,
+            Target::Symbolic(_) => OptionTarget::SYMBOLIC,
+        }
+    }
+
+    // Both absent, or both present and the same.
+    pub fn eq(self, other: OptionTarget) -> bool
+        ensures { λ r. ⌜ r ≡ sameOption self other ⌝ }
+    {
+        match self {
+            OptionTarget::Absent => match other {
+                OptionTarget::Absent => true,
+                OptionTarget::Present(_) => false,
+            },
+            OptionTarget::Present(lhs) => match other {
+                OptionTarget::Absent => false,
+                OptionTarget::Present(rhs) => lhs.eq(rhs),
+            },
+        }
+    }
+
+    pub fn number(self) -> u64
+        ensures { λ r. ⌜ r ≡ targetNumber self ⌝ }
+    {
+        let OptionTarget::Present(target) = self else {
+            return 0;
+        };
+        match target {
+            Target::Object(oid) => oid.0,
+            Target::Symbolic(name) => name.0 as u64,
+        }
+    }
+}
