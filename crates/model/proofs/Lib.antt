@@ -1,4 +1,5 @@
 pub mod Rules
+pub mod RowsFine
 pub mod Cases
 pub mod Open
 pub mod Marked

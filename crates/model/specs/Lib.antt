@@ -16,3 +16,5 @@ pub mod Reply
 pub mod Load
 pub mod Calls
 pub mod Numbers
+pub mod Reached
+pub mod Demand3
