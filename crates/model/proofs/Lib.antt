@@ -4,3 +4,6 @@ pub mod Cases
 pub mod Open
 pub mod Marked
 pub mod Worked
+pub mod Stops
+pub mod Release
+pub mod Commits
