@@ -153,8 +153,10 @@ unsigned-stop s p k made t e =
     let q : List Write = permitted (by 0) (writes (by 0) s) in
     let m : made ≡ min k (length q) = d .1 ∙ run-made (by 0) k (writes (by 0) s) 0 s ∙ omega arith in
     let l : length q ≤ k = u .0 in
-    let n : length q < length (writes (by 0) s) = u .1 in
-    (ap (λ (j : ℕ). take j (writes (by 0) s)) m
-    ∙ sym (take-permitted (by 0) k (writes (by 0) s))
-    ∙ take-all k q l
-    ∙ permitted-is 0 s, omega arith)
+    let n : length q < length (writes (by 0) s) = u .1 in (
+      ap (λ (j : ℕ). take j (writes (by 0) s)) m
+          ∙ sym (take-permitted (by 0) k (writes (by 0) s))
+          ∙ take-all k q l
+          ∙ permitted-is 0 s,
+      omega arith,
+    )

@@ -21,7 +21,7 @@ use Rattle.model.specs.Names.{isDisabled, logs}
 use Rattle.model.specs.Store.{Store, nameOf, linesOf}
 use Rattle.model.specs.Rows.{nameIn, changeIn}
 
--- who commits; request by request a line may come to carry more
+-- who commits: what a log line carries besides its move
 pub record Stamp : Type 0 where
   pub committer : ℕ
 

@@ -1,4 +1,4 @@
--- Numbers a caller gets: 01's number of a reply, and the places of the answer record that go with it.
+-- Numbers a caller gets: the number of a reply, and the places of the answer record that go with it.
 use mathlib.Core.Bool.{Bool, true, false}
 use mathlib.Core.List.{List, [], _∷_, _++_}
 use Prim.Native.Nat.{ℕ, zero, suc, _-_}

@@ -31,8 +31,8 @@ impl RefLog {
         ensures { λ r. ⌜ r ≡ refLogOf byte ⌝ }
     {
         match byte {
-            0 => OptionRefLog::RefLog(RefLog::AndReference),
-            1 => OptionRefLog::RefLog(RefLog::Only),
+            RefLog::AND_REFERENCE => OptionRefLog::RefLog(RefLog::AndReference),
+            RefLog::ONLY => OptionRefLog::RefLog(RefLog::Only),
             _ => OptionRefLog::NoRefLog,
         }
     }
@@ -118,14 +118,18 @@ impl PreviousValue {
     {
         match target {
             OptionTarget::Absent => match byte {
-                0 => OptionPrevious::Previous(PreviousValue::Any),
-                1 => OptionPrevious::Previous(PreviousValue::MustExist),
-                2 => OptionPrevious::Previous(PreviousValue::MustNotExist),
+                PreviousValue::ANY => OptionPrevious::Previous(PreviousValue::Any),
+                PreviousValue::MUST_EXIST => OptionPrevious::Previous(PreviousValue::MustExist),
+                PreviousValue::MUST_NOT_EXIST => OptionPrevious::Previous(
+                    PreviousValue::MustNotExist,
+                ),
                 _ => OptionPrevious::NoPrevious,
             },
             OptionTarget::Present(t) => match byte {
-                3 => OptionPrevious::Previous(PreviousValue::MustExistAndMatch(t)),
-                4 => OptionPrevious::Previous(PreviousValue::ExistingMustMatch(t)),
+                PreviousValue::MUST_EXIST_AND_MATCH =>
+                    OptionPrevious::Previous(PreviousValue::MustExistAndMatch(t)),
+                PreviousValue::EXISTING_MUST_MATCH =>
+                    OptionPrevious::Previous(PreviousValue::ExistingMustMatch(t)),
                 _ => OptionPrevious::NoPrevious,
             },
         }
@@ -392,11 +396,14 @@ impl PackedRefs {
         ensures { λ r. ⌜ r ≡ packedRefsOf number ⌝ }
     {
         match number {
-            1 => OptionPackedRefs::Mode(PackedRefs::DeletionsOnly),
-            2 => OptionPackedRefs::Mode(PackedRefs::DeletionsAndNonSymbolicUpdates),
-            3 => OptionPackedRefs::Mode(
-                PackedRefs::DeletionsAndNonSymbolicUpdatesRemoveLooseSourceReference,
+            PackedRefs::DELETIONS_ONLY => OptionPackedRefs::Mode(PackedRefs::DeletionsOnly),
+            PackedRefs::DELETIONS_AND_NON_SYMBOLIC_UPDATES => OptionPackedRefs::Mode(
+                PackedRefs::DeletionsAndNonSymbolicUpdates,
             ),
+            PackedRefs::DELETIONS_AND_NON_SYMBOLIC_UPDATES_REMOVE_LOOSE_SOURCE_REFERENCE =>
+                OptionPackedRefs::Mode(
+                    PackedRefs::DeletionsAndNonSymbolicUpdatesRemoveLooseSourceReference,
+                ),
             _ => OptionPackedRefs::NoMode,
         }
     }
