@@ -7,3 +7,8 @@ pub mod Worked
 pub mod Stops
 pub mod Release
 pub mod Commits
+pub mod Alike
+pub mod Valued
+pub mod Turns
+pub mod SameRefs
+pub mod HeldSound

@@ -1,0 +1,90 @@
+-- Stores with the same refs, logs and setting, whatever their locks and rows, and what they share. Assumes nothing.
+use mathlib.Core.Path.{_≡_, refl, sym, ap, _∙_}
+use mathlib.Core.Bool.{Bool}
+use mathlib.Core.List.{List, [], _∷_, map}
+use Prim.Native.Nat.{ℕ}
+use lib.ListN.{length, getD, length-map, List·getD-map}
+use Rattle.target.specs.declared.NameNumber.{NameNumber}
+use Rattle.transaction.specs.declared.PackedRefs.{PackedRefs}
+use Rattle.transaction.specs.declared.Edit.{Edit}
+use Rattle.model.specs.declared.Lock.the-variants.{Free}
+use Rattle.model.specs.Basic.{any, collect}
+use Rattle.model.specs.Store.{Store, Entry, noEntry, count, entryAt, nameOf, linesOf, isPacked, putLock}
+use Rattle.model.specs.Rows.{nameIn, counts, countsAsUpdate, opens, isDirect, keepsLock}
+use Rattle.model.specs.Due.{Stamp, isLogged, dueLine, unsigned, dueLines}
+use Rattle.model.proofs.Alike.{any-map}
+
+-- an entry whatever its lock
+abbrev pub unlocked : Entry → Entry
+unlocked e = putLock Free e
+
+pub record SameRefs (s t : Store) : Type 0 where
+  pub refs : map unlocked (s .entries) ≡ map unlocked (t .entries)
+  pub lines : s .lines ≡ t .lines
+  pub setting : s .setting ≡ t .setting
+
+-- ---- lists
+
+pub any-same : {A : Type 0} (p q : A → Bool) → ((a : A) → p a ≡ q a) → (l : List A) → any p l ≡ any q l
+any-same p q h [] = refl
+any-same p q h (a ∷ l) = rw (h a, any-same p q h l)
+
+pub collect-same : {A B : Type 0} (f g : A → List B) → ((a : A) → f a ≡ g a) → (l : List A) → collect f l ≡ collect g l
+collect-same f g h [] = refl
+collect-same f g h (a ∷ l) = rw (h a, collect-same f g h l)
+
+-- ---- what the two share
+
+module _ (s t : Store) (e : SameRefs s t) where
+  pub same-count : count s ≡ count t
+  same-count = sym (length-map (s .entries) unlocked) ∙ ap length (e .refs) ∙ length-map (t .entries) unlocked
+
+  -- of each name, whatever its lock does not touch
+  pub same-at : {A : Type 0} (f : Entry → A) → ((x : Entry) → f (unlocked x) ≡ f x) → (n : ℕ) → f (entryAt s n) ≡ f (entryAt t n)
+  same-at f h n = sym (here s) ∙ ap (λ (l : List Entry). f (getD l n noEntry)) (e .refs) ∙ here t
+    where
+      here : (u : Store) → f (getD (map unlocked (u .entries)) n noEntry) ≡ f (entryAt u n)
+      here u = ap f (List·getD-map unlocked (u .entries) n noEntry) ∙ h (entryAt u n)
+
+  pub same-name : (n : NameNumber) → nameOf s n ≡ nameOf t n
+  same-name n = same-at (λ (x : Entry). x .name) (λ x. refl) (n .0)
+
+  pub same-linesOf : (n : NameNumber) → linesOf s n ≡ linesOf t n
+  unfolding linesOf
+  same-linesOf n = rw (e .lines)
+
+  same-packed : any (λ (x : Entry). isPacked (x .packed)) (s .entries) ≡ any (λ (x : Entry). isPacked (x .packed)) (t .entries)
+  same-packed = sym (here s) ∙ ap (any packed) (e .refs) ∙ here t
+    where
+      packed : Entry → Bool
+      packed x = isPacked (x .packed)
+
+      here : (u : Store) → any packed (map unlocked (u .entries)) ≡ any packed (u .entries)
+      here u = any-map unlocked packed packed (λ x. refl) (u .entries)
+
+  pub same-counts : (r : Edit) → counts s r ≡ counts t r
+  unfolding counts
+  same-counts r = rw (same-name (nameIn r))
+
+  pub same-opens : (mode : PackedRefs) (rows : List Edit) → opens s mode rows ≡ opens t mode rows
+  unfolding opens
+  same-opens mode rows =
+      rw (any-same (counts s) (counts t) same-counts rows, updates, same-packed)
+    where
+      updates : any (countsAsUpdate s) rows ≡ any (countsAsUpdate t) rows
+      updates = any-same (countsAsUpdate s) (countsAsUpdate t) (λ r. rw (same-counts r)) rows
+
+  pub same-isDirect : (mode : PackedRefs) (r : Edit) → isDirect s mode r ≡ isDirect t mode r
+  unfolding isDirect
+  same-isDirect mode r = rw (same-name (nameIn r))
+
+  pub same-keepsLock : (mode : PackedRefs) (r : Edit) → keepsLock s mode r ≡ keepsLock t mode r
+  unfolding keepsLock
+  same-keepsLock mode r = rw (same-name (nameIn r))
+
+  pub same-dueLine : (stamp : Stamp) (r : Edit) → dueLine stamp s r ≡ dueLine stamp t r
+  unfolding dueLine isLogged
+  same-dueLine stamp r = rw (same-name (nameIn r), same-linesOf (nameIn r), e .setting)
+
+  pub same-dueLines : (rows : List Edit) → dueLines s rows ≡ dueLines t rows
+  same-dueLines = collect-same (dueLine unsigned s) (dueLine unsigned t) (same-dueLine unsigned)
