@@ -12,3 +12,11 @@ pub mod Valued
 pub mod Turns
 pub mod SameRefs
 pub mod HeldSound
+pub mod Binds
+pub mod All
+pub mod EditsFine
+pub mod Climbs
+pub mod RoundsFine
+pub mod Distinct
+pub mod SplitFine
+pub mod PrepareSound
