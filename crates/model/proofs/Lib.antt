@@ -20,3 +20,10 @@ pub mod RoundsFine
 pub mod Distinct
 pub mod SplitFine
 pub mod PrepareSound
+pub mod Places
+pub mod FineEdit
+pub mod Base
+pub mod Grown
+pub mod KeptSimple
+pub mod KeptCommit
+pub mod Kept

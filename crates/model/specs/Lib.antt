@@ -18,3 +18,4 @@ pub mod Calls
 pub mod Numbers
 pub mod Reached
 pub mod Demand3
+pub mod Kept
