@@ -27,3 +27,15 @@ pub mod Grown
 pub mod KeptSimple
 pub mod KeptCommit
 pub mod Kept
+pub mod Switch
+pub mod Touch
+pub mod RowSteps
+pub mod Phases
+pub mod Shows
+pub mod Order
+pub mod RowFacts
+pub mod EarlyLate
+pub mod Moments
+pub mod Logs
+pub mod Prefixes
+pub mod Demand3
