@@ -1,9 +1,6 @@
+pub mod AtWork
 pub mod Rules
 pub mod RowsFine
-pub mod Cases
-pub mod Open
-pub mod Marked
-pub mod Worked
 pub mod Stops
 pub mod Release
 pub mod Commits

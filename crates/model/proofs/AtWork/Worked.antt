@@ -15,8 +15,8 @@ use Rattle.model.specs.Reply.{Call}
 use Rattle.model.specs.Reply.Call.{start, addName, nameBytes, loadLoose, loadPacked, lockName, unlockName, lockPacked, unlockPacked, prepare, commit, rollback, readName, readLine, readRow}
 use Rattle.model.specs.Load.{newEntry}
 use Rattle.model.specs.Numbers.{answer}
-use Rattle.model.proofs.Cases.{Case, Right, HEAD, aisle, site, blank, update, delete, through, logOnly, expecting, matching, object, link, list, logMoves, looseBecomes, looseGoes, logGoes, packedBecomes, packedGoes, the, to, _⇒_, inOrder, atEveryStop}
-use Rattle.model.proofs.Open.{open-all}
+use Rattle.model.proofs.AtWork.Cases.{Case, Right, HEAD, aisle, site, blank, update, delete, through, logOnly, expecting, matching, object, link, list, logMoves, looseBecomes, looseGoes, logGoes, packedBecomes, packedGoes, the, to, _⇒_, inOrder, atEveryStop}
+use Rattle.model.proofs.AtWork.Open.{open-all}
 
 -- a third name
 abbrev bay : ℕ

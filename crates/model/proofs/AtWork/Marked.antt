@@ -9,8 +9,8 @@ use Rattle.model.specs.Writes.Write.{writePacked}
 use Rattle.model.specs.Reply.{Call}
 use Rattle.model.specs.Reply.Call.{start, addName, loadLoose, loadPacked, prepare, commit, readName, readLine, readRow}
 use Rattle.model.specs.Numbers.{answer}
-use Rattle.model.proofs.Cases.{Case, Right, HEAD, aisle, site, blank, update, delete, through, logOnly, expecting, matching, object, list, logMoves, looseBecomes, looseGoes, packedGoes, the, _⇒_, inOrder, atEveryStop}
-use Rattle.model.proofs.Open.{open-all}
+use Rattle.model.proofs.AtWork.Cases.{Case, Right, HEAD, aisle, site, blank, update, delete, through, logOnly, expecting, matching, object, list, logMoves, looseBecomes, looseGoes, packedGoes, the, _⇒_, inOrder, atEveryStop}
+use Rattle.model.proofs.AtWork.Open.{open-all}
 
 -- update name 0 through its link to object 7, message 3, byte by byte
 abbrev whole : List ℕ

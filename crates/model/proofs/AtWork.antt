@@ -1,0 +1,6 @@
+-- The definitions at work: tables of examples and tests of demand 3's sentences, each claim proved by computing.
+pub mod Cases
+pub mod Demand3
+pub mod Marked
+pub mod Open
+pub mod Worked
