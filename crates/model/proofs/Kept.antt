@@ -17,52 +17,43 @@ use Rattle.model.specs.Reached.Reached.{begun, after}
 use Rattle.model.specs.Kept.{Kept, ReachedSound}
 use Rattle.model.proofs.PrepareSound.{prepare-sound}
 use Rattle.model.proofs.Base.{fine-sound}
+use Rattle.model.proofs.KeptSimple.{Rule, ruleFine, ruleSound}
 use Rattle.model.proofs.KeptSimple as simple
-use Rattle.model.proofs.KeptCommit.{kept-commit, sound-commit}
+use Rattle.model.proofs.KeptCommit.{commit-kept}
 
--- prepare: refused, or the store that is sound
-module _ (P : Store → Type 0) (weaker : (s : Store) → Sound s → P s) (s : Store) (fine : Fine s) (p : P s) where
-  kept-prepare : (list : List ℕ) (mode : ℕ) → P (leaves (step (prepare list mode) s) s)
+-- one proof for both: P is the rules, or what holds of every reached store
+module _ (P : Store → Type 0) (rule : Rule P) (s : Store) (here : P s) where
+  -- prepare: refused, or the store that is sound
+  prepare-kept : (list : List ℕ) (mode : ℕ) → P (leaves (step (prepare list mode) s) s)
   unfolding step prepared
-  kept-prepare list mode = go (rowsFor list mode s) refl
+  prepare-kept list mode = go (rowsFor list mode s) refl
     where
       go : (o : Outcome Prepared) → rowsFor list mode s ≡ o → P (leaves (step (prepare list mode) s) s)
-      go (refuse r) e = rw e p
-      go (pass q) e = rw e (weaker _ (prepare-sound s fine list mode q e))
+      go (refuse r) e = rw e here
+      go (pass q) e = rw e (rule .sound _ (prepare-sound s (rule .fine s here) list mode q e))
+
+  call-kept : (c : Call) → P (leaves (step c s) s)
+  call-kept (start k) = simple.start-kept P rule s here k
+  call-kept (addName bytes) = simple.addName-kept P rule s here bytes
+  call-kept (nameBytes n) = simple.nameBytes-kept P rule s here n
+  call-kept (loadLoose n kind x) = simple.loadLoose-kept P rule s here n kind x
+  call-kept (loadPacked n kind x) = simple.loadPacked-kept P rule s here n kind x
+  call-kept (lockName n) = simple.lockName-kept P rule s here n
+  call-kept (unlockName n) = simple.unlockName-kept P rule s here n
+  call-kept lockPacked = simple.lockPacked-kept P rule s here
+  call-kept unlockPacked = simple.unlockPacked-kept P rule s here
+  call-kept (prepare list mode) = prepare-kept list mode
+  call-kept (commit c k) = commit-kept P rule s here c k
+  call-kept rollback = simple.rollback-kept P rule s here
+  call-kept (readName n) = simple.readName-kept P rule s here n
+  call-kept (readLine n place) = simple.readLine-kept P rule s here n place
+  call-kept (readRow place) = simple.readRow-kept P rule s here place
 
 pub kept : Kept
-kept s f (start k) = simple.kept-start s f k
-kept s f (addName bytes) = simple.kept-addName s f bytes
-kept s f (nameBytes n) = simple.kept-nameBytes s f n
-kept s f (loadLoose n kind x) = simple.kept-loadLoose s f n kind x
-kept s f (loadPacked n kind x) = simple.kept-loadPacked s f n kind x
-kept s f (lockName n) = simple.kept-lockName s f n
-kept s f (unlockName n) = simple.kept-unlockName s f n
-kept s f lockPacked = simple.kept-lockPacked s f
-kept s f unlockPacked = simple.kept-unlockPacked s f
-kept s f (prepare list mode) = kept-prepare Fine (λ t h. h .fine) s f f list mode
-kept s f (commit c k) = kept-commit s f c k
-kept s f rollback = simple.kept-rollback s f
-kept s f (readName n) = simple.kept-readName s f n
-kept s f (readLine n place) = simple.kept-readLine s f n place
-kept s f (readRow place) = simple.kept-readRow s f place
+kept = call-kept Fine ruleFine
 
 pub sound : (s : Store) → Sound s → (c : Call) → Sound (leaves (step c s) s)
-sound s h (start k) = simple.sound-start s h k
-sound s h (addName bytes) = simple.sound-addName s h bytes
-sound s h (nameBytes n) = simple.sound-nameBytes s h n
-sound s h (loadLoose n kind x) = simple.sound-loadLoose s h n kind x
-sound s h (loadPacked n kind x) = simple.sound-loadPacked s h n kind x
-sound s h (lockName n) = simple.sound-lockName s h n
-sound s h (unlockName n) = simple.sound-unlockName s h n
-sound s h lockPacked = simple.sound-lockPacked s h
-sound s h unlockPacked = simple.sound-unlockPacked s h
-sound s h (prepare list mode) = kept-prepare Sound (λ t k. k) s (h .fine) h list mode
-sound s h (commit c k) = sound-commit s h c k
-sound s h rollback = simple.sound-rollback s h
-sound s h (readName n) = simple.sound-readName s h n
-sound s h (readLine n place) = simple.sound-readLine s h n place
-sound s h (readRow place) = simple.sound-readRow s h place
+sound = call-kept Sound ruleSound
 
 pub reached-sound : ReachedSound
 reached-sound s (begun setting) = fine-sound (empty setting) (simple.empty-fine setting) refl

@@ -371,7 +371,7 @@ module _ (P : Store → Type 0) (rule : Rule P) (s : Store) (here : P s) where
   ended-kept r b none = released-kept P rule (r .store) b
   ended-kept r b (some why) = released-kept P rule (r .store) b
 
-  commit-kept : (c k : ℕ) → P (leaves (step (commit c k) s) s)
+  pub commit-kept : (c k : ℕ) → P (leaves (step (commit c k) s) s)
   unfolding step committed
   commit-kept c k =
       let stamp : Stamp = record { committer = c } in
@@ -379,9 +379,3 @@ module _ (P : Store → Type 0) (rule : Rule P) (s : Store) (here : P s) where
       tested P s here (not (isPrepared (s .prepared))) _ _ (λ e.
       tested P s here (ltb 65535 c) _ _ (λ h.
       ended-kept r (committing-base s (rule .fine s here) stamp (ltb-false 65535 c h) k) (r .stop)))
-
-pub kept-commit : (s : Store) → Fine s → (c k : ℕ) → Fine (leaves (step (commit c k) s) s)
-kept-commit = commit-kept Fine ruleFine
-
-pub sound-commit : (s : Store) → Sound s → (c k : ℕ) → Sound (leaves (step (commit c k) s) s)
-sound-commit = commit-kept Sound ruleSound

@@ -34,14 +34,15 @@ use Rattle.model.proofs.Grown.{line-grows, entry-grows, Alike, Held, al
 -- over to a store that differs in locks of others and in new names alone
 pub record Rule (P : Store → Type 0) : Type 0 where
   pub fine : (s : Store) → P s → Fine s
+  pub sound : (s : Store) → Sound s → P s
   pub idle : (s : Store) → Fine s → s .prepared ≡ none → P s
   pub alike : (s t : Store) → P s → Alike s t → Held s t → Base t → P t
 
 pub ruleFine : Rule Fine
-ruleFine = record { fine = λ s f. f; idle = λ s f e. f; alike = alike-fine }
+ruleFine = record { fine = λ s f. f; sound = λ s h. h .fine; idle = λ s f e. f; alike = alike-fine }
 
 pub ruleSound : Rule Sound
-ruleSound = record { fine = λ s f. f .fine; idle = fine-sound; alike = alike-sound }
+ruleSound = record { fine = λ s f. f .fine; sound = λ s h. h; idle = fine-sound; alike = alike-sound }
 
 -- after commit or rollback
 pub released-kept : (P : Store → Type 0) → Rule P → (s : Store) → Base s → P (released s)
@@ -170,29 +171,29 @@ module _ (P : Store → Type 0) (rule : Rule P) (s : Store) (here : P s) where
   past-known : (n : ℕ) (r : Reply) → (n < count s → P (leaves r s)) → P (leaves (known n s >> r) s)
   past-known n r h = past (not (ltb n (count s))) _ r (λ e. h (ltb-true n (count s) (not-false _ e)))
 
-  start-kept : (k : ℕ) → P (leaves (step (start k) s) s)
+  pub start-kept : (k : ℕ) → P (leaves (step (start k) s) s)
   unfolding step started
   start-kept k =
       passed P s here (orRefuse Malformed (settingOf k)) _ (λ setting e.
       rule .idle (empty setting) (empty-fine setting) refl)
 
-  rollback-kept : P (leaves (step rollback s) s)
+  pub rollback-kept : P (leaves (step rollback s) s)
   unfolding step rolledBack
   rollback-kept = released-kept P rule s rules
 
-  nameBytes-kept : (n : ℕ) → P (leaves (step (nameBytes n) s) s)
+  pub nameBytes-kept : (n : ℕ) → P (leaves (step (nameBytes n) s) s)
   unfolding step bytesGiven
   nameBytes-kept n = past-known n _ (λ h. here)
 
-  readName-kept : (n : ℕ) → P (leaves (step (readName n) s) s)
+  pub readName-kept : (n : ℕ) → P (leaves (step (readName n) s) s)
   unfolding step nameRead
   readName-kept n = past-known n _ (λ h. here)
 
-  readLine-kept : (n place : ℕ) → P (leaves (step (readLine n place) s) s)
+  pub readLine-kept : (n place : ℕ) → P (leaves (step (readLine n place) s) s)
   unfolding step lineRead
   readLine-kept n place = past-known n _ (λ h. past (leb (length (linesOf s (record { 0 = n }))) place) _ _ (λ e. here))
 
-  readRow-kept : (place : ℕ) → P (leaves (step (readRow place) s) s)
+  pub readRow-kept : (place : ℕ) → P (leaves (step (readRow place) s) s)
   unfolding step rowRead
   readRow-kept place = past (leb (length (rowsIn (s .prepared))) place) _ _ (λ e. here)
 
@@ -211,7 +212,7 @@ module _ (P : Store → Type 0) (rule : Rule P) (s : Store) (here : P s) where
       free : ((m : ℕ) → m < count s → isLock Ours (entryAt s m .lock) ≡ false) × (isLock Ours (s .packedLock) ≡ false)
       free = idle-free s (rule .fine s here) e
 
-  loadLoose-kept : (n kind x : ℕ) → P (leaves (step (loadLoose n kind x) s) s)
+  pub loadLoose-kept : (n kind x : ℕ) → P (leaves (step (loadLoose n kind x) s) s)
   unfolding step looseLoaded
   loadLoose-kept n kind x =
       past (isPrepared (s .prepared)) _ _ (λ e.
@@ -221,7 +222,7 @@ module _ (P : Store → Type 0) (rule : Rule P) (s : Store) (here : P s) where
       changed (putLoose v) n (not-prepared (s .prepared) e) refl refl
       (entry-loose (count s) (entryAt s n) v (rules .entries n h) q)))))
 
-  loadPacked-kept : (n kind x : ℕ) → P (leaves (step (loadPacked n kind x) s) s)
+  pub loadPacked-kept : (n kind x : ℕ) → P (leaves (step (loadPacked n kind x) s) s)
   unfolding step packedLoaded
   loadPacked-kept n kind x =
       past (isPrepared (s .prepared)) _ _ (λ e.
@@ -293,7 +294,7 @@ module _ (P : Store → Type 0) (rule : Rule P) (s : Store) (here : P s) where
       }
       (base-added s name rules e o h)
 
-  addName-kept : (bytes : List ℕ) → P (leaves (step (addName bytes) s) s)
+  pub addName-kept : (bytes : List ℕ) → P (leaves (step (addName bytes) s) s)
   unfolding step nameAdded
   addName-kept bytes = past (not (isName bytes)) _ _ (λ e. go (not-false _ e) (numberFrom 0 bytes (s .entries)) refl)
     where
@@ -301,100 +302,18 @@ module _ (P : Store → Type 0) (rule : Rule P) (s : Store) (here : P s) where
       go e none q = past (leb 256 (count s)) _ _ (λ h. added bytes e q (leb-false 256 (count s) h))
       go e (some n) q = here
 
-  lockName-kept : (n : ℕ) → P (leaves (step (lockName n) s) s)
+  pub lockName-kept : (n : ℕ) → P (leaves (step (lockName n) s) s)
   unfolding step
   lockName-kept n = placed-kept (ofName n)
 
-  unlockName-kept : (n : ℕ) → P (leaves (step (unlockName n) s) s)
+  pub unlockName-kept : (n : ℕ) → P (leaves (step (unlockName n) s) s)
   unfolding step
   unlockName-kept n = lifted-kept (ofName n)
 
-  lockPacked-kept : P (leaves (step lockPacked s) s)
+  pub lockPacked-kept : P (leaves (step lockPacked s) s)
   unfolding step
   lockPacked-kept = placed-kept packedTable
 
-  unlockPacked-kept : P (leaves (step unlockPacked s) s)
+  pub unlockPacked-kept : P (leaves (step unlockPacked s) s)
   unfolding step
   unlockPacked-kept = lifted-kept packedTable
-
--- ---- the rules
-
-pub kept-start : (s : Store) → Fine s → (k : ℕ) → Fine (leaves (step (start k) s) s)
-kept-start = start-kept Fine ruleFine
-
-pub kept-addName : (s : Store) → Fine s → (bytes : List ℕ) → Fine (leaves (step (addName bytes) s) s)
-kept-addName = addName-kept Fine ruleFine
-
-pub kept-nameBytes : (s : Store) → Fine s → (n : ℕ) → Fine (leaves (step (nameBytes n) s) s)
-kept-nameBytes = nameBytes-kept Fine ruleFine
-
-pub kept-loadLoose : (s : Store) → Fine s → (n kind x : ℕ) → Fine (leaves (step (loadLoose n kind x) s) s)
-kept-loadLoose = loadLoose-kept Fine ruleFine
-
-pub kept-loadPacked : (s : Store) → Fine s → (n kind x : ℕ) → Fine (leaves (step (loadPacked n kind x) s) s)
-kept-loadPacked = loadPacked-kept Fine ruleFine
-
-pub kept-lockName : (s : Store) → Fine s → (n : ℕ) → Fine (leaves (step (lockName n) s) s)
-kept-lockName = lockName-kept Fine ruleFine
-
-pub kept-unlockName : (s : Store) → Fine s → (n : ℕ) → Fine (leaves (step (unlockName n) s) s)
-kept-unlockName = unlockName-kept Fine ruleFine
-
-pub kept-lockPacked : (s : Store) → Fine s → Fine (leaves (step lockPacked s) s)
-kept-lockPacked = lockPacked-kept Fine ruleFine
-
-pub kept-unlockPacked : (s : Store) → Fine s → Fine (leaves (step unlockPacked s) s)
-kept-unlockPacked = unlockPacked-kept Fine ruleFine
-
-pub kept-rollback : (s : Store) → Fine s → Fine (leaves (step rollback s) s)
-kept-rollback = rollback-kept Fine ruleFine
-
-pub kept-readName : (s : Store) → Fine s → (n : ℕ) → Fine (leaves (step (readName n) s) s)
-kept-readName = readName-kept Fine ruleFine
-
-pub kept-readLine : (s : Store) → Fine s → (n place : ℕ) → Fine (leaves (step (readLine n place) s) s)
-kept-readLine = readLine-kept Fine ruleFine
-
-pub kept-readRow : (s : Store) → Fine s → (place : ℕ) → Fine (leaves (step (readRow place) s) s)
-kept-readRow = readRow-kept Fine ruleFine
-
--- ---- what holds of reached stores
-
-pub sound-start : (s : Store) → Sound s → (k : ℕ) → Sound (leaves (step (start k) s) s)
-sound-start = start-kept Sound ruleSound
-
-pub sound-addName : (s : Store) → Sound s → (bytes : List ℕ) → Sound (leaves (step (addName bytes) s) s)
-sound-addName = addName-kept Sound ruleSound
-
-pub sound-nameBytes : (s : Store) → Sound s → (n : ℕ) → Sound (leaves (step (nameBytes n) s) s)
-sound-nameBytes = nameBytes-kept Sound ruleSound
-
-pub sound-loadLoose : (s : Store) → Sound s → (n kind x : ℕ) → Sound (leaves (step (loadLoose n kind x) s) s)
-sound-loadLoose = loadLoose-kept Sound ruleSound
-
-pub sound-loadPacked : (s : Store) → Sound s → (n kind x : ℕ) → Sound (leaves (step (loadPacked n kind x) s) s)
-sound-loadPacked = loadPacked-kept Sound ruleSound
-
-pub sound-lockName : (s : Store) → Sound s → (n : ℕ) → Sound (leaves (step (lockName n) s) s)
-sound-lockName = lockName-kept Sound ruleSound
-
-pub sound-unlockName : (s : Store) → Sound s → (n : ℕ) → Sound (leaves (step (unlockName n) s) s)
-sound-unlockName = unlockName-kept Sound ruleSound
-
-pub sound-lockPacked : (s : Store) → Sound s → Sound (leaves (step lockPacked s) s)
-sound-lockPacked = lockPacked-kept Sound ruleSound
-
-pub sound-unlockPacked : (s : Store) → Sound s → Sound (leaves (step unlockPacked s) s)
-sound-unlockPacked = unlockPacked-kept Sound ruleSound
-
-pub sound-rollback : (s : Store) → Sound s → Sound (leaves (step rollback s) s)
-sound-rollback = rollback-kept Sound ruleSound
-
-pub sound-readName : (s : Store) → Sound s → (n : ℕ) → Sound (leaves (step (readName n) s) s)
-sound-readName = readName-kept Sound ruleSound
-
-pub sound-readLine : (s : Store) → Sound s → (n place : ℕ) → Sound (leaves (step (readLine n place) s) s)
-sound-readLine = readLine-kept Sound ruleSound
-
-pub sound-readRow : (s : Store) → Sound s → (place : ℕ) → Sound (leaves (step (readRow place) s) s)
-sound-readRow = readRow-kept Sound ruleSound
