@@ -22,6 +22,7 @@ use Rattle.model.specs.Rows.{nameIn, changeIn, rowAt, ancestors}
 use Rattle.model.specs.Fine.{fineOption, fineLoose, finePacked, fineEntry, fineParent, fineRow, Fine}
 use Rattle.model.specs.Prepare.{existing}
 use Rattle.model.proofs.Rules.{both-true, every-at}
+use Rattle.model.proofs.FineEdit.{FineEdit, row-edit}
 use Rattle.model.proofs.RowsFine.{RowsFine}
 use Rattle.model.proofs.Alike.{Alike, new-plain, message-plain, alike-length, alike-at, alike-ancestors}
 
@@ -69,23 +70,7 @@ abbrev pub AllValued : ℕ → List Edit → Type 0
 AllValued n rows = (i : ℕ) → Valued n (rowAt rows i)
 
 row-valued : (n : ℕ) (rows : List Edit) (i : ℕ) → fineRow n rows i ≡ true → Valued n (rowAt rows i)
-unfolding fineRow
-row-valued n rows i h = record { previous = every-at ts 3 h; leaf = every-at ts 7 h }
-  where
-    r : Edit
-    r = rowAt rows i
-
-    ts : List Bool
-    ts =
-        ltb (nameIn r .0) n
-        ∷ not (r .update .deref)
-        ∷ ltb (messageOf (changeIn r)) (2 ^ 16)
-        ∷ fineOption n (previousValue (changeIn r))
-        ∷ fineOption n (newValue (changeIn r))
-        ∷ fineParent i (r .«parent_index»)
-        ∷ leb (length (ancestors rows i)) 4
-        ∷ ltb (r .«leaf_referent_previous_oid» .0) (2 ^ 64)
-        ∷ []
+row-valued n rows i h = let f : FineEdit n (rowAt rows i) = row-edit n rows i h in record { previous = f .previous; leaf = f .leaf }
 
 -- also past the rows' end, where nothing stands
 pub rows-valued : (n : ℕ) (rows : List Edit) → RowsFine n rows → AllValued n rows
