@@ -1,0 +1,5 @@
+pub mod Bytes
+pub mod Classes
+pub mod Components
+pub mod Syntax
+pub mod Prefixes

@@ -1,0 +1,277 @@
+// Names: which byte strings are one, which names are packable and which are logged, and their order.
+// Every answer is that of a definition of crates/model/specs/Names.antt.
+use model::WriteReflog;
+use target::NameNumber;
+ghost use mathlib.Core.Path.{_≡_};
+ghost use Rattle.model.specs.Basic.{all};
+ghost use Rattle.model.specs.Names.{sameBytes, begins, within, before, isUpper, isSpecial, isComponentByte, isComponent};
+ghost use Rattle.model.specs.Names.{components, isRef, isName, packable, logs};
+ghost use Rattle.names.specs.Parts.{ends, toSlash};
+
+// The name begins with the prefix.
+pub fn begins_with(name: &[u8], prefix: &[u8]) -> bool
+    ensures { λ r. ⌜ r ≡ begins (now (prefix .entry)) (now (name .entry)) ⌝ }
+{
+    let mut i: usize = 0;
+    while i < prefix.len() {
+        if name.len() <= i {
+            return false;
+        }
+        if prefix[i] != name[i] {
+            return false;
+        }
+        i += 1;
+    }
+    true
+}
+
+// The two have the same bytes.
+pub fn same(a: &[u8], b: &[u8]) -> bool
+    ensures { λ r. ⌜ r ≡ sameBytes (now (a .entry)) (now (b .entry)) ⌝ }
+{
+    if a.len() != b.len() {
+        return false;
+    }
+    begins_with(b, a)
+}
+
+// The name ends with the suffix.
+fn ends_with(name: &[u8], suffix: &[u8]) -> bool
+    ensures { λ r. ⌜ r ≡ ends (now (suffix .entry)) (now (name .entry)) ⌝ }
+{
+    if name.len() < suffix.len() {
+        return false;
+    }
+    let start = name.len() - suffix.len();
+    same(suffix, &name[start..])
+}
+
+// The part stands somewhere in the name.
+fn contains(name: &[u8], part: &[u8]) -> bool
+    ensures { λ r. ⌜ r ≡ within (now (part .entry)) (now (name .entry)) ⌝ }
+{
+    let mut i: usize = 0;
+    loop {
+        if begins_with(&name[i..], part) {
+            return true;
+        }
+        if i == name.len() {
+            return false;
+        }
+        i += 1;
+    }
+}
+
+// Byte order: the first stands before the second.
+pub fn is_before(a: &[u8], b: &[u8]) -> bool
+    ensures { λ r. ⌜ r ≡ before (now (a .entry)) (now (b .entry)) ⌝ }
+{
+    let mut i: usize = 0;
+    while i < b.len() {
+        if a.len() <= i {
+            return true;
+        }
+        if a[i] != b[i] {
+            return a[i] < b[i];
+        }
+        i += 1;
+    }
+    false
+}
+
+// A byte of a special name after its first: A to Z and `_`.
+fn is_upper(byte: u8) -> bool
+    ensures { λ r. ⌜ r ≡ isUpper byte ⌝ }
+{
+    match byte {
+        b'A'..=b'Z' | b'_' => true,
+        _ => false,
+    }
+}
+
+// A byte of a component: letters, digits, `-`, `_`, `.`.
+fn is_component_byte(byte: u8) -> bool
+    ensures { λ r. ⌜ r ≡ isComponentByte byte ⌝ }
+{
+    match byte {
+        b'A'..=b'Z' | b'a'..=b'z' | b'0'..=b'9' | b'-' | b'_' | b'.' => true,
+        _ => false,
+    }
+}
+
+// The bytes may stand in a special name after its first.
+fn all_upper(bytes: &[u8]) -> bool
+    ensures { λ r. ⌜ r ≡ all isUpper (now (bytes .entry)) ⌝ }
+{
+    let mut i: usize = 0;
+    while i < bytes.len() {
+        let ok = is_upper(bytes[i]);
+        if ok {
+            i += 1;
+        } else {
+            return false;
+        }
+    }
+    true
+}
+
+// The bytes may stand in a component.
+fn all_component_bytes(bytes: &[u8]) -> bool
+    ensures { λ r. ⌜ r ≡ all isComponentByte (now (bytes .entry)) ⌝ }
+{
+    let mut i: usize = 0;
+    while i < bytes.len() {
+        let ok = is_component_byte(bytes[i]);
+        if ok {
+            i += 1;
+        } else {
+            return false;
+        }
+    }
+    true
+}
+
+// A special name: A to Z and `_`, first a letter.
+fn is_special(name: &[u8]) -> bool
+    ensures { λ r. ⌜ r ≡ isSpecial (now (name .entry)) ⌝ }
+{
+    if name.len() == 0 {
+        return false;
+    }
+    match name[0] {
+        b'A'..=b'Z' => all_upper(&name[1..]),
+        _ => false,
+    }
+}
+
+// A component: of its bytes alone, not empty, not begun with `.`, not ended with `.lock`.
+fn is_component(part: &[u8]) -> bool
+    ensures { λ r. ⌜ r ≡ isComponent (now (part .entry)) ⌝ }
+{
+    if part.len() == 0 {
+        return false;
+    }
+    if !all_component_bytes(part) {
+        return false;
+    }
+    if begins_with(part, b".") {
+        return false;
+    }
+    !ends_with(part, b".lock")
+}
+
+// How many bytes the first component has: up to the first `/`, or all.
+fn component_length(bytes: &[u8]) -> usize
+    ensures { λ r. ⌜ r ≡ toSlash (now (bytes .entry)) ⌝ }
+{
+    let mut i: usize = 0;
+    while i < bytes.len() {
+        if bytes[i] == b'/' {
+            return i;
+        }
+        i += 1;
+    }
+    i
+}
+
+// What stands between the `/` are components, each of them.
+fn are_components(bytes: &[u8]) -> bool
+    ensures { λ r. ⌜ r ≡ all isComponent (components (now (bytes .entry))) ⌝ }
+{
+    let mut rest = bytes;
+    loop {
+        let n = component_length(rest);
+        if !is_component(&rest[..n]) {
+            return false;
+        }
+        if n == rest.len() {
+            return true;
+        }
+        rest = &rest[n + 1..];
+    }
+}
+
+// `refs/` and components joined by single `/`; `..` nowhere; no final `.`.
+fn is_ref(name: &[u8]) -> bool
+    ensures { λ r. ⌜ r ≡ isRef (now (name .entry)) ⌝ }
+{
+    if !begins_with(name, b"refs/") {
+        return false;
+    }
+    if !are_components(&name[5..]) {
+        return false;
+    }
+    if contains(name, b"..") {
+        return false;
+    }
+    !ends_with(name, b".")
+}
+
+// A name has 1 to 64 bytes, and is special or under `refs/`.
+pub fn is_name(name: &[u8]) -> bool
+    ensures { λ r. ⌜ r ≡ isName (now (name .entry)) ⌝ }
+{
+    if name.len() == 0 {
+        return false;
+    }
+    if NameNumber::LONGEST < name.len() {
+        return false;
+    }
+    if is_special(name) {
+        return true;
+    }
+    is_ref(name)
+}
+
+// The packed table may hold the name: under `refs/`, and in none of the three places that are a worktree's own.
+pub fn is_packable(name: &[u8]) -> bool
+    ensures { λ r. ⌜ r ≡ packable (now (name .entry)) ⌝ }
+{
+    if !begins_with(name, b"refs/") {
+        return false;
+    }
+    if begins_with(name, b"refs/bisect/") {
+        return false;
+    }
+    if begins_with(name, b"refs/worktree/") {
+        return false;
+    }
+    !begins_with(name, b"refs/rewritten/")
+}
+
+// Setting 1: `HEAD`, branches, remotes and notes.
+fn is_logged_normally(name: &[u8]) -> bool
+    ensures { λ r. ⌜ r ≡ logs WriteReflog.Normal (now (name .entry)) ⌝ }
+{
+    if same(b"HEAD", name) {
+        return true;
+    }
+    if begins_with(name, b"refs/heads/") {
+        return true;
+    }
+    if begins_with(name, b"refs/remotes/") {
+        return true;
+    }
+    begins_with(name, b"refs/notes/")
+}
+
+// Setting 2: `HEAD` and all under `refs/`.
+fn is_logged_always(name: &[u8]) -> bool
+    ensures { λ r. ⌜ r ≡ logs WriteReflog.Always (now (name .entry)) ⌝ }
+{
+    if same(b"HEAD", name) {
+        return true;
+    }
+    begins_with(name, b"refs/")
+}
+
+// The log setting by itself has the name logged, whatever lines it has already.
+pub fn is_logged(setting: WriteReflog, name: &[u8]) -> bool
+    ensures { λ r. ⌜ r ≡ logs setting (now (name .entry)) ⌝ }
+{
+    match setting {
+        WriteReflog::Disable => false,
+        WriteReflog::Normal => is_logged_normally(name),
+        WriteReflog::Always => is_logged_always(name),
+    }
+}
