@@ -10,8 +10,8 @@ use lib.ListN.{length}
 use lib.Dec.{eqb, ltb, leb}
 use lib.Pow.{areBytes}
 use borrow.Author.Tests.{ltb-true, lt-ltb, eqb-false, leb-true}
-use Rattle.word.specs.Be.{cut, val}
-use Rattle.word.proofs.Be.{Bytes, are-bytes, bytes-cut, val-cut}
+use Rattle.word.specs.Be.{Bytes, cut, val}
+use Rattle.word.proofs.Be.{are-bytes, bytes-cut, val-cut}
 use Rattle.target.specs.declared.Target.the-variants.{Object, Symbolic}
 use Rattle.target.specs.declared.OptionTarget.{OptionTarget}
 use Rattle.target.specs.declared.OptionTarget.the-variants.{Absent, Present}

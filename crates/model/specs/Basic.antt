@@ -1,14 +1,15 @@
 -- Small words that the definitions share.
-use mathlib.Core.Path.{_≡_}
 use mathlib.Core.Bool.{Bool, true, false, _&&_, _||_, cond}
 use mathlib.Core.List.{List, [], _∷_, _++_}
 use mathlib.Core.Option.{Option, none, some}
-use Prim.Native.Nat.{ℕ, zero, suc, _<_}
+use Prim.Native.Nat.{ℕ}
 use Prim.Native.Char.{code}
 use Prim.Native.String.{String}
 use Prim.Native.String as string
 use lib.ListN.{set}
 use lib.Dec.{eqb}
+pub use Rattle.word.specs.Tests.{every, Below}
+unfoldable pub use Rattle.word.specs.Tests.{below}
 
 -- the bytes of a text
 abbrev pub text : String → List ℕ
@@ -23,11 +24,6 @@ any p (x ∷ xs) = p x || any p xs
 abbrev pub all : {A : Type 0} → (A → Bool) → List A → Bool
 all p [] = true
 all p (x ∷ xs) = p x && all p xs
-
--- every test of the list passes
-abbrev pub every : List Bool → Bool
-every [] = true
-every (t ∷ ts) = t && every ts
 
 -- the elements that pass the test, in order
 abbrev pub select : {A : Type 0} → (A → Bool) → List A → List A
@@ -52,11 +48,3 @@ isEmpty (x ∷ xs) = false
 abbrev pub lastOr : {A : Type 0} → A → List A → A
 lastOr x [] = x
 lastOr x (y ∷ ys) = lastOr y ys
-
--- every number below n passes the test: as a statement, and as a test
-abbrev pub Below : ℕ → (ℕ → Bool) → Type 0
-Below n p = (i : ℕ) → i < n → p i ≡ true
-
-unfoldable pub below : ℕ → (ℕ → Bool) → Bool
-below zero p = true
-below (suc n) p = below n p && p n

@@ -6,6 +6,7 @@ use Prim.Native.Char.{Char, code}
 use Prim.Native.String.{String}
 use lib.ListN.{length, drop}
 use lib.Dec.{eqb, ltb, leb}
+use Rattle.word.specs.Tests.{sameList}
 use Rattle.model.specs.declared.WriteReflog.{WriteReflog}
 use Rattle.model.specs.declared.WriteReflog.the-variants.{Disable, Normal, Always}
 use Rattle.model.specs.Basic.{text, all, isEmpty}
@@ -13,10 +14,7 @@ use Rattle.model.specs.Basic.{text, all, isEmpty}
 -- ---- bytes
 
 abbrev pub sameBytes : List ℕ → List ℕ → Bool
-sameBytes [] [] = true
-sameBytes [] (y ∷ ys) = false
-sameBytes (x ∷ xs) [] = false
-sameBytes (x ∷ xs) (y ∷ ys) = eqb x y && sameBytes xs ys
+sameBytes xs ys = sameList xs ys
 
 -- the first begins the second
 abbrev pub begins : List ℕ → List ℕ → Bool

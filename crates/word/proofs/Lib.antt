@@ -1,1 +1,9 @@
 pub mod Be
+pub mod Tests
+pub mod Cut
+pub mod Table
+pub mod Fields
+pub mod Slots
+pub mod Column
+pub mod Codec
+pub mod Text

@@ -1,0 +1,75 @@
+-- What the tests made of tests say: all pass exactly where each does. Assumes nothing.
+use mathlib.Core.Path.{_≡_, refl, sym, ap, ap₂, _∙_}
+use mathlib.Core.Bool.{Bool, true, false, _&&_, false≢true, true≢false, and-false}
+use mathlib.Core.List.{List, [], _∷_}
+use Prim.Native.Nat.{ℕ, zero, suc, _+_, _<_}
+use native.Mathlib.Numerals.{add-one}
+use native.Mathlib.Omega.{arith}
+use lib.ListN.{getD}
+use lib.Dec.{eqb}
+use borrow.Author.Tests.{eqb-true, eqb-false, eq-eqb}
+use Rattle.word.specs.Tests.{every, Below, below, sameList}
+
+pub both-true : (a b : Bool) → a && b ≡ true → (a ≡ true) × (b ≡ true)
+both-true true b e = (refl, e)
+both-true false b e = absurd (false≢true e)
+
+pub true-both : {a b : Bool} → a ≡ true → b ≡ true → a && b ≡ true
+true-both p q = rw (p, q)
+
+-- ---- a list of tests; past its end there is none to fail
+
+pub every-at : (ts : List Bool) (i : ℕ) → every ts ≡ true → getD ts i true ≡ true
+every-at [] i e = refl
+every-at (t ∷ ts) zero e = both-true t (every ts) e .0
+every-at (t ∷ ts) (suc i) e = every-at ts i (both-true t (every ts) e .1)
+
+pub every-false : (ts : List Bool) (i : ℕ) → getD ts i true ≡ false → every ts ≡ false
+every-false [] i e = absurd (true≢false e)
+every-false (t ∷ ts) zero e = rw e
+every-false (t ∷ ts) (suc i) e = rw (every-false ts i e) (and-false t)
+
+-- ---- every number below n
+
+pub below-false : (n : ℕ) (p : ℕ → Bool) (i : ℕ) → i < n → p i ≡ false → below n p ≡ false
+unfolding below
+below-false zero p i h e = absurd (omega arith)
+below-false (suc n) p i h e = go (below-false n p i) (eqb i n) refl
+  where
+    go : (i < n → p i ≡ false → below n p ≡ false) → (t : Bool) → eqb i n ≡ t → below n p && p n ≡ false
+    go k true q = let f : p n ≡ false = ap p (sym (eqb-true i n q)) ∙ e in rw f (and-false (below n p))
+    go k false q = let d : i ≡ n → ⊥ = eqb-false i n q in rw (k (omega arith) e)
+
+pub below-true : (n : ℕ) (p : ℕ → Bool) → below n p ≡ true → Below n p
+below-true n p e i h = go (p i) refl
+  where
+    go : (t : Bool) → p i ≡ t → p i ≡ true
+    go true q = q
+    go false q = absurd (false≢true (sym (below-false n p i h q) ∙ e))
+
+pub true-below : (n : ℕ) (p : ℕ → Bool) → Below n p → below n p ≡ true
+unfolding below
+true-below zero p h = refl
+true-below (suc n) p h = true-both (true-below n p (λ i k. h i (omega arith))) (h n (omega arith))
+
+-- one number more: a loop's turn
+pub below-more : (n : ℕ) (p : ℕ → Bool) → below n p ≡ true → p n ≡ true → below (n + 1) p ≡ true
+unfolding below
+below-more n p e h = rw add-one (true-both e h)
+
+-- ---- two lists
+
+pub sameList-true : (xs ys : List ℕ) → sameList xs ys ≡ true → xs ≡ ys
+sameList-true [] [] e = refl
+sameList-true [] (y ∷ ys) e = absurd (false≢true e)
+sameList-true (x ∷ xs) [] e = absurd (false≢true e)
+sameList-true (x ∷ xs) (y ∷ ys) e =
+    let b : (eqb x y ≡ true) × (sameList xs ys ≡ true) = both-true (eqb x y) (sameList xs ys) e in
+    ap₂ (λ (n : ℕ) (l : List ℕ). n ∷ l) (eqb-true x y (b .0)) (sameList-true xs ys (b .1))
+
+pub sameList-refl : (xs : List ℕ) → sameList xs xs ≡ true
+sameList-refl [] = refl
+sameList-refl (x ∷ xs) = true-both (eq-eqb x x refl) (sameList-refl xs)
+
+pub sameList-false : (xs ys : List ℕ) → sameList xs ys ≡ false → xs ≡ ys → ⊥
+sameList-false xs ys h e = true≢false (sym (sameList-refl xs) ∙ ap (sameList xs) e ∙ h)
