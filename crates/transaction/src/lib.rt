@@ -3,7 +3,7 @@
 ghost use mathlib.Core.Path.{_≡_};
 ghost use Rattle.transaction.specs.Change.{newValue, previousValue, previousOid, defaultLog, expectedTarget, rowOf};
 ghost use Rattle.transaction.specs.Fields.{refLogByte, refLogOf, previousByte, previousOf, changeByte};
-ghost use Rattle.transaction.specs.Fields.{packedRefsOf};
+ghost use Rattle.transaction.specs.Fields.{packedRefsNumber, packedRefsOf};
 ghost use Rattle.transaction.specs.Same.{sameRefLog, sameLogChange, samePrevious, sameChange, sameUpdate, sameDelete, sameRefEdit};
 use target::NameNumber;
 use target::ObjectNumber;
@@ -405,6 +405,18 @@ impl PackedRefs {
                     PackedRefs::DeletionsAndNonSymbolicUpdatesRemoveLooseSourceReference,
                 ),
             _ => OptionPackedRefs::NoMode,
+        }
+    }
+
+    pub fn number(self) -> u64
+        ensures { λ r. ⌜ r ≡ packedRefsNumber self ⌝ }
+    {
+        match self {
+            PackedRefs::DeletionsOnly => PackedRefs::DELETIONS_ONLY,
+            PackedRefs::DeletionsAndNonSymbolicUpdates =>
+                PackedRefs::DELETIONS_AND_NON_SYMBOLIC_UPDATES,
+            PackedRefs::DeletionsAndNonSymbolicUpdatesRemoveLooseSourceReference =>
+                PackedRefs::DELETIONS_AND_NON_SYMBOLIC_UPDATES_REMOVE_LOOSE_SOURCE_REFERENCE,
         }
     }
 }
