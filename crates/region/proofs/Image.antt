@@ -1,0 +1,316 @@
+-- The image of a store that fits: its length, its bytes; it is laid out so, and the store is seen in it. Assumes nothing.
+use mathlib.Core.Path.{_≡_, refl, ap, ap₂, _∙_}
+use mathlib.Core.Bool.{true, cond}
+use mathlib.Core.List.{List, [], _∷_, map}
+use mathlib.Core.Option.{Option, none, some, Option·getD}
+use Prim.Native.Nat.{ℕ, _≤_, _<_}
+use native.Mathlib.Omega.{arith}
+use lib.ListN.{length, getD}
+use lib.Dec.{eqb, lit≤, lit<}
+use Rattle.word.specs.Be.{Bytes, cut, val, be}
+use Rattle.word.specs.Be.Bytes.{none as noBytes}
+use Rattle.word.specs.Cut.{flat, start}
+use Rattle.word.specs.Table.{table, tabulate}
+use Rattle.word.specs.Codec.{Codec, elements}
+use Rattle.word.specs.Text.{FineText, encText}
+use Rattle.word.proofs.Be.{length-be, val-be, bytes-be, bytes-append}
+use Rattle.word.proofs.Cut.{length-sized, cut-whole}
+use Rattle.word.proofs.Table.{length-table, tabulate-getD}
+use Rattle.word.proofs.Codec.{forth-elements}
+use Rattle.word.proofs.Column.{column-forth, column-part, column-bytes}
+use Rattle.word.proofs.Text.{texts, length-text}
+use Rattle.transaction.specs.declared.Edit.{Edit}
+use Rattle.transaction.specs.declared.PackedRefs.{PackedRefs}
+use Rattle.transaction.specs.declared.PackedRefs.the-variants.{DeletionsOnly, DeletionsAndNonSymbolicUpdates, DeletionsAndNonSymbolicUpdatesRemoveLooseSourceReference}
+use Rattle.transaction.specs.Fields.{packedRefsNumber}
+use Rattle.model.specs.declared.Loose.{Loose}
+use Rattle.model.specs.declared.Packed.{Packed}
+use Rattle.model.specs.declared.Lock.{Lock}
+use Rattle.model.specs.declared.Lock.the-variants.{Free, Foreign, Ours}
+use Rattle.model.specs.declared.Line.{Line}
+use Rattle.model.specs.declared.WriteReflog.{WriteReflog}
+use Rattle.model.specs.declared.WriteReflog.the-variants.{Disable, Normal, Always}
+use Rattle.model.specs.Store.{Store, Entry, Prepared, noEntry, noLine, noRow, count, entryAt, rowsIn, lockByte}
+use Rattle.model.specs.Load.{settingOf}
+use Rattle.slots.specs.Values.{looseForm, packedForm, packedIn, lockForm, lockFrom, lineForm, lineIn}
+use Rattle.slots.specs.Row.{rowForm}
+use Rattle.region.specs.Layout.{settingAt, packedLockAt, nameBase, nameWidth, looseBase, looseWidth, packedBase, packedWidth, lockBase, lockWidth, rowBase, rowWidth, lineBase, lineWidth, restSize, sizes}
+use Rattle.region.specs.Region.{settingByte, modeByte, sections, image, nameCount, lineCount, modeNumber, rowCount, entryIn, lineAt, rowAt, preparedFrom, view, layout}
+use Rattle.slots.proofs.Codecs.{looses, packeds, locks, lines, rows, wide-loose, wide-packed, wide-lock, wide-line, wide-row}
+use Rattle.region.proofs.Fits.{FitsStore}
+use Rattle.region.proofs.Parts.{Parts, parts-layout}
+
+-- the codec of names
+unfoldable pub names : Codec (List ℕ) (FineText 64)
+unfolding texts
+names = texts 64 (lit< tt)
+
+-- ---- lengths
+
+cons : {a b : ℕ} {xs ys : List ℕ} → a ≡ b → xs ≡ ys → a ∷ xs ≡ b ∷ ys
+cons p q = ap₂ (λ (n : ℕ) (l : List ℕ). n ∷ l) p q
+
+pub sized : (s : Store) → map length (sections s) ≡ sizes
+unfolding sections
+sized s =
+    cons (length-be 1 1)
+    (cons (length-be 4 restSize)
+    (cons (length-be 1 (settingByte (s .setting)))
+    (cons (length-be 2 (count s))
+    (cons (length-be 2 (length (s .lines)))
+    (cons (length-be 1 (modeByte (s .prepared)))
+    (cons (length-be 1 (length (rowsIn (s .prepared))))
+    (cons (length-be 1 (lockByte (s .packedLock)))
+    (cons (length-table nameWidth (λ (e : Entry). encText 64 (e .name)) (λ e. length-text 64 (e .name)) 256 (s .entries))
+    (cons (length-table looseWidth (λ (e : Entry). looseForm (e .loose)) (λ e. wide-loose (e .loose)) 256 (s .entries))
+    (cons (length-table packedWidth (λ (e : Entry). packedForm (e .packed)) (λ e. wide-packed (e .packed)) 256 (s .entries))
+    (cons (length-table lockWidth (λ (e : Entry). lockForm (e .lock)) (λ e. wide-lock (e .lock)) 256 (s .entries))
+    (cons (length-table rowWidth rowForm wide-row 160 (rowsIn (s .prepared)))
+    (cons (length-table lineWidth lineForm wide-line 1024 (s .lines)) refl)))))))))))))
+
+pub length-image : (s : Store) → length (image s) ≡ 49549
+unfolding image
+length-image s = length-sized (sections s) sizes (sized s)
+
+-- ---- the small parts: their bytes are small, and say which part it is
+
+setting-small : (w : WriteReflog) → settingByte w ≤ 2
+setting-small Disable = lit≤ tt
+setting-small Normal = lit≤ tt
+setting-small Always = lit≤ tt
+
+setting-back : (w : WriteReflog) → Option·getD (settingOf (settingByte w)) Disable ≡ w
+setting-back Disable = refl
+setting-back Normal = refl
+setting-back Always = refl
+
+lock-small : (l : Lock) → lockByte l ≤ 2
+lock-small Free = lit≤ tt
+lock-small Foreign = lit≤ tt
+lock-small Ours = lit≤ tt
+
+lock-back : (l : Lock) → Option·getD (lockFrom (lockByte l)) Free ≡ l
+lock-back Free = refl
+lock-back Foreign = refl
+lock-back Ours = refl
+
+number-small : (m : PackedRefs) → packedRefsNumber m ≤ 3
+number-small DeletionsOnly = lit≤ tt
+number-small DeletionsAndNonSymbolicUpdates = lit≤ tt
+number-small DeletionsAndNonSymbolicUpdatesRemoveLooseSourceReference = lit≤ tt
+
+mode-small : (p : Option Prepared) → modeByte p ≤ 3
+mode-small none = lit≤ tt
+mode-small (some p) = number-small (p .mode)
+
+number-back : (m : PackedRefs) (rows : List Edit) → preparedFrom (packedRefsNumber m) rows ≡ some (record { mode = m; rows = rows })
+number-back DeletionsOnly rows = refl
+number-back DeletionsAndNonSymbolicUpdates rows = refl
+number-back DeletionsAndNonSymbolicUpdatesRemoveLooseSourceReference rows = refl
+
+prepared-back : (p : Option Prepared) → preparedFrom (modeByte p) (rowsIn p) ≡ p
+prepared-back none = refl
+prepared-back (some p) = number-back (p .mode) (p .rows)
+
+-- without a mode there is no row
+number-room : (m : PackedRefs) (n : ℕ) → n ≤ 160 → n ≤ cond (eqb (packedRefsNumber m) 0) 0 160
+number-room DeletionsOnly n h = h
+number-room DeletionsAndNonSymbolicUpdates n h = h
+number-room DeletionsAndNonSymbolicUpdatesRemoveLooseSourceReference n h = h
+
+rows-room : (p : Option Prepared) → length (rowsIn p) ≤ 160 → length (rowsIn p) ≤ cond (eqb (modeByte p) 0) 0 160
+rows-room none h = lit≤ tt
+rows-room (some p) h = number-room (p .mode) (length (p .rows)) h
+
+entry-same : (a : List ℕ) (b : Loose) (c : Packed) (d : Lock) (e : Entry) → a ≡ e .name → b ≡ e .loose → c ≡ e .packed → d ≡ e .lock
+    → record { name = a; loose = b; packed = c; lock = d } ≡ e
+entry-same a b c d e p q r s = rw (p, q, r, s)
+
+store-same : (a : List Entry) (b : Lock) (c : List Line) (d : WriteReflog) (e : Option Prepared) (s : Store)
+    → a ≡ s .entries → b ≡ s .packedLock → c ≡ s .lines → d ≡ s .setting → e ≡ s .prepared
+    → record { entries = a; packedLock = b; lines = c; setting = d; prepared = e } ≡ s
+store-same a b c d e s p q r t u = rw (p, q, r, t, u)
+
+-- ---- the image, section by section
+
+section : (s : Store) (i : ℕ) → i < 14 → cut (start i sizes) (getD sizes i 0) (image s) ≡ getD (sections s) i []
+unfolding image
+section s i h = cut-whole (sections s) sizes (sized s) i h
+
+module _ (s : Store) where
+  version-at : cut 0 1 (image s) ≡ be 1 1
+  unfolding sections
+  version-at = section s 0 (lit< tt)
+
+  rest-at : cut 1 4 (image s) ≡ be 4 restSize
+  unfolding sections
+  rest-at = section s 1 (lit< tt)
+
+  setting-at : cut 5 1 (image s) ≡ be 1 (settingByte (s .setting))
+  unfolding sections
+  setting-at = section s 2 (lit< tt)
+
+  names-at : cut 6 2 (image s) ≡ be 2 (count s)
+  unfolding sections
+  names-at = section s 3 (lit< tt)
+
+  lines-at : cut 8 2 (image s) ≡ be 2 (length (s .lines))
+  unfolding sections
+  lines-at = section s 4 (lit< tt)
+
+  mode-at : cut 10 1 (image s) ≡ be 1 (modeByte (s .prepared))
+  unfolding sections
+  mode-at = section s 5 (lit< tt)
+
+  rows-at : cut 11 1 (image s) ≡ be 1 (length (rowsIn (s .prepared)))
+  unfolding sections
+  rows-at = section s 6 (lit< tt)
+
+  lock-at : cut 12 1 (image s) ≡ be 1 (lockByte (s .packedLock))
+  unfolding sections
+  lock-at = section s 7 (lit< tt)
+
+  nameTable : cut nameBase 16640 (image s) ≡ table 256 (λ (e : Entry). encText 64 (e .name)) nameWidth (s .entries)
+  unfolding sections
+  nameTable = section s 8 (lit< tt)
+
+  looseTable : cut looseBase 2304 (image s) ≡ table 256 (λ (e : Entry). looseForm (e .loose)) looseWidth (s .entries)
+  unfolding sections
+  looseTable = section s 9 (lit< tt)
+
+  packedTable : cut packedBase 2048 (image s) ≡ table 256 (λ (e : Entry). packedForm (e .packed)) packedWidth (s .entries)
+  unfolding sections
+  packedTable = section s 10 (lit< tt)
+
+  lockTable : cut lockBase 256 (image s) ≡ table 256 (λ (e : Entry). lockForm (e .lock)) lockWidth (s .entries)
+  unfolding sections
+  lockTable = section s 11 (lit< tt)
+
+  rowTable : cut rowBase 5760 (image s) ≡ table 160 rowForm rowWidth (rowsIn (s .prepared))
+  unfolding sections
+  rowTable = section s 12 (lit< tt)
+
+  lineTable : cut lineBase 22528 (image s) ≡ table 1024 lineForm lineWidth (s .lines)
+  unfolding sections
+  lineTable = section s 13 (lit< tt)
+
+-- ---- the fields
+
+module _ (s : Store) where
+  setting-image : val (cut settingAt 1 (image s)) ≡ settingByte (s .setting)
+  setting-image = ap val (setting-at s) ∙ val-be 1 (settingByte (s .setting)) (let h : settingByte (s .setting) ≤ 2 = setting-small (s .setting) in omega arith)
+
+  mode-image : modeNumber (image s) ≡ modeByte (s .prepared)
+  unfolding modeNumber
+  mode-image = ap val (mode-at s) ∙ val-be 1 (modeByte (s .prepared)) (let h : modeByte (s .prepared) ≤ 3 = mode-small (s .prepared) in omega arith)
+
+  lock-image : val (cut packedLockAt 1 (image s)) ≡ lockByte (s .packedLock)
+  lock-image = ap val (lock-at s) ∙ val-be 1 (lockByte (s .packedLock)) (let h : lockByte (s .packedLock) ≤ 2 = lock-small (s .packedLock) in omega arith)
+
+module _ (s : Store) (f : FitsStore s) where
+  names-image : nameCount (image s) ≡ count s
+  unfolding nameCount
+  names-image = ap val (names-at s) ∙ val-be 2 (count s) (let h : count s ≤ 256 = f .names in omega arith)
+
+  lines-image : lineCount (image s) ≡ length (s .lines)
+  unfolding lineCount
+  lines-image = ap val (lines-at s) ∙ val-be 2 (length (s .lines)) (let h : length (s .lines) ≤ 1024 = f .lines in omega arith)
+
+  rows-image : rowCount (image s) ≡ length (rowsIn (s .prepared))
+  unfolding rowCount
+  rows-image = ap val (rows-at s) ∙ val-be 1 (length (rowsIn (s .prepared))) (let h : length (rowsIn (s .prepared)) ≤ 160 = f .rows in omega arith)
+
+  -- ---- the tables
+
+  pub bytes-image : Bytes (image s)
+  unfolding image sections flat names looses packeds locks rows lines
+  bytes-image =
+      bytes-append (bytes-be 1 1)
+      (bytes-append (bytes-be 4 restSize)
+      (bytes-append (bytes-be 1 (settingByte (s .setting)))
+      (bytes-append (bytes-be 2 (count s))
+      (bytes-append (bytes-be 2 (length (s .lines)))
+      (bytes-append (bytes-be 1 (modeByte (s .prepared)))
+      (bytes-append (bytes-be 1 (length (rowsIn (s .prepared))))
+      (bytes-append (bytes-be 1 (lockByte (s .packedLock)))
+      (bytes-append (column-bytes names (λ (e : Entry). e .name) noEntry 256 (s .entries) (λ i h. f .entry i h .0))
+      (bytes-append (column-bytes looses (λ (e : Entry). e .loose) noEntry 256 (s .entries) (λ i h. f .entry i h .1))
+      (bytes-append (column-bytes packeds (λ (e : Entry). e .packed) noEntry 256 (s .entries) (λ i h. f .entry i h .2))
+      (bytes-append (column-bytes locks (λ (e : Entry). e .lock) noEntry 256 (s .entries) (λ i h. tt))
+      (bytes-append (column-bytes rows (λ (r : Edit). r) noRow 160 (rowsIn (s .prepared)) (f .row))
+      (bytes-append (column-bytes lines (λ (l : Line). l) noLine 1024 (s .lines) (f .line)) noBytes)))))))))))))
+
+  -- the values at a name, a line, a row
+  entry-image : (i : ℕ) → i < count s → entryIn (image s) i ≡ entryAt s i
+  unfolding names looses packeds locks
+  entry-image i h =
+      entry-same _ _ _ _ (entryAt s i)
+      (column-part names (λ (e : Entry). e .name) noEntry 256 (count s) nameBase (image s) (s .entries) refl (f .names)
+      (λ j k. f .entry j k .0) (nameTable s) i h)
+      (column-part looses (λ (e : Entry). e .loose) noEntry 256 (count s) looseBase (image s) (s .entries) refl (f .names)
+      (λ j k. f .entry j k .1) (looseTable s) i h)
+      (column-part packeds (λ (e : Entry). e .packed) noEntry 256 (count s) packedBase (image s) (s .entries) refl (f .names)
+      (λ j k. f .entry j k .2) (packedTable s) i h)
+      (column-part locks (λ (e : Entry). e .lock) noEntry 256 (count s) lockBase (image s) (s .entries) refl (f .names)
+      (λ j k. tt) (lockTable s) i h)
+
+  entries-image : tabulate (nameCount (image s)) (entryIn (image s)) ≡ s .entries
+  entries-image =
+      ap (λ (n : ℕ). tabulate n (entryIn (image s))) names-image
+      ∙ tabulate-getD (s .entries) noEntry (entryIn (image s)) entry-image
+
+  allLines-image : tabulate (lineCount (image s)) (lineAt (image s)) ≡ s .lines
+  unfolding lines elements
+  allLines-image =
+      forth-elements lines 1024 (lineCount (image s)) lineBase (image s) (s .lines) noLine lines-image (f .lines) (f .line) (lineTable s)
+
+  allRows-image : tabulate (rowCount (image s)) (rowAt (image s)) ≡ rowsIn (s .prepared)
+  unfolding rows elements
+  allRows-image =
+      forth-elements rows 160 (rowCount (image s)) rowBase (image s) (rowsIn (s .prepared)) noRow rows-image (f .rows) (f .row) (rowTable s)
+
+  pub view-image : view (image s) ≡ s
+  unfolding view
+  view-image =
+      store-same _ _ _ _ _ s entries-image
+      (ap (λ (n : ℕ). Option·getD (lockFrom n) Free) (lock-image s) ∙ lock-back (s .packedLock))
+      allLines-image
+      (ap (λ (n : ℕ). Option·getD (settingOf n) Disable) (setting-image s) ∙ setting-back (s .setting))
+      (ap₂ preparedFrom (mode-image s) allRows-image ∙ prepared-back (s .prepared))
+
+  parts-image : Parts (image s)
+  unfolding names looses packeds locks rows lines packedIn lineIn
+  parts-image =
+      record {
+        size = length-image s;
+        bytes = bytes-image;
+        version = ap val (version-at s) ∙ val-be 1 1 (lit< tt);
+        rest = ap val (rest-at s) ∙ val-be 4 restSize (lit< tt);
+        setting = rw setting-image (setting-small (s .setting));
+        names = rw names-image (f .names);
+        lines = rw lines-image (f .lines);
+        mode = rw mode-image (mode-small (s .prepared));
+        rows = rw (rows-image, mode-image) (rows-room (s .prepared) (f .rows));
+        packedLock = rw lock-image (lock-small (s .packedLock));
+        nameOk =
+            column-forth names (λ (e : Entry). e .name) noEntry 256 (nameCount (image s)) nameBase (image s) (s .entries) names-image (f .names)
+            (λ j k. f .entry j k .0) (nameTable s);
+        looseOk =
+            column-forth looses (λ (e : Entry). e .loose) noEntry 256 (nameCount (image s)) looseBase (image s) (s .entries) names-image (f .names)
+            (λ j k. f .entry j k .1) (looseTable s);
+        packedOk =
+            column-forth packeds (λ (e : Entry). e .packed) noEntry 256 (nameCount (image s)) packedBase (image s) (s .entries) names-image (f .names)
+            (λ j k. f .entry j k .2) (packedTable s);
+        lockOk =
+            column-forth locks (λ (e : Entry). e .lock) noEntry 256 (nameCount (image s)) lockBase (image s) (s .entries) names-image (f .names)
+            (λ j k. tt) (lockTable s);
+        rowOk =
+            column-forth rows (λ (r : Edit). r) noRow 160 (rowCount (image s)) rowBase (image s) (rowsIn (s .prepared)) rows-image (f .rows)
+            (f .row) (rowTable s);
+        lineOk =
+            column-forth lines (λ (l : Line). l) noLine 1024 (lineCount (image s)) lineBase (image s) (s .lines) lines-image (f .lines)
+            (f .line) (lineTable s);
+      }
+
+  pub layout-image : layout (image s) ≡ true
+  layout-image = parts-layout (image s) parts-image

@@ -1,0 +1,12 @@
+pub mod Fits
+pub mod Parts
+pub mod Image
+pub mod Seen
+pub mod View
+pub mod Decode
+pub mod Read
+pub mod ReadLaws
+pub mod Sized
+pub mod WriteLaws
+pub mod Write
+pub mod PutLaws

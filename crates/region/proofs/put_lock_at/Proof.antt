@@ -1,0 +1,42 @@
+-- `put_lock_at` meets its contract: the slot of the name holds the lock's form. Assumes nothing.
+use Rattle.region.proofs.PutLaws.{put-lock-is}
+use borrow.Author.Needs.{needs}
+use Rattle.region.proofs.put_lock_at.Statement.{statement}
+use Rattle.region.proofs.put_lock_at.Tie as tie
+
+add-a : tie.Need-add-a
+add-a c = search needs
+
+add-e : tie.Need-add-e
+add-e c = search needs
+
+sub-put-lock : tie.Need-sub-put-lock
+sub-put-lock c = search needs
+
+part-put-lock-start : tie.Need-part-put-lock-start
+part-put-lock-start c = search needs
+
+part-put-lock-end : tie.Need-part-put-lock-end
+part-put-lock-end c = search needs
+
+put-lock-requires : tie.Need-put-lock-requires
+put-lock-requires c κs = search needs
+
+same-length : tie.Need-same-length
+same-length c = search needs
+
+returns : tie.Need-returns
+returns c = search put-lock-is
+
+pub put-lock-at-spec : {M : Type 1} → statement M
+put-lock-at-spec =
+    tie.close
+    (tie.spec
+    add-a
+    add-e
+    sub-put-lock
+    part-put-lock-start
+    part-put-lock-end
+    put-lock-requires
+    same-length
+    returns)

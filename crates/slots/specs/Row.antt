@@ -1,0 +1,110 @@
+-- The form of a row in a slot of 36 bytes: the numbers that reading a row answers, in that order.
+use mathlib.Core.Path.{_≡_}
+use mathlib.Core.Bool.{Bool, true, false, _&&_, cond}
+use mathlib.Core.List.{List, [], _∷_}
+use mathlib.Core.Option.{Option, none, some}
+use Prim.Native.Nat.{ℕ, zero, suc, _^_, _<_}
+use lib.ListN.{getD}
+use lib.Dec.{eqb, leb}
+use Rattle.word.specs.Fields.{fields, unfields}
+use Rattle.target.specs.declared.OptionTarget.{OptionTarget}
+use Rattle.target.specs.declared.OptionTarget.the-variants.{Absent, Present}
+use Rattle.transaction.specs.declared.ParentIndex.{ParentIndex}
+use Rattle.transaction.specs.declared.ParentIndex.the-variants.{NoParent, Parent}
+use Rattle.transaction.specs.declared.Edit.{Edit}
+use Rattle.transaction.specs.Change.{newValue, previousValue, messageOf}
+use Rattle.transaction.specs.Fields.{refLogOf, refLogOption, previousOf, previousOption}
+use Rattle.transaction.specs.declared.Change.{Change}
+use Rattle.slots.specs.declared.OptionOptionTarget.{OptionOptionTarget}
+use Rattle.slots.specs.declared.OptionOptionTarget.the-variants.{NoTarget}
+use Rattle.slots.specs.declared.OptionOptionTarget.the-variants as optionTarget
+use Rattle.slots.specs.declared.OptionParent.{OptionParent}
+use Rattle.slots.specs.declared.OptionParent.the-variants.{NoPlace, Place}
+use Rattle.slots.specs.declared.OptionChange.{OptionChange}
+use Rattle.slots.specs.declared.OptionChange.the-variants.{NoChange}
+use Rattle.slots.specs.declared.OptionChange.the-variants as optionChange
+use Rattle.slots.specs.declared.OptionRow.{OptionRow}
+use Rattle.slots.specs.declared.OptionRow.the-variants.{NoRow, Row}
+use Rattle.slots.specs.declared.RowNumbers.{RowNumbers}
+use Rattle.model.specs.EditList.{_>>=_, flagOf, targetOf, changeOf}
+use Rattle.model.specs.Numbers.{rowPlaces}
+use Rattle.slots.specs.Values.{FitsTarget}
+
+-- name, kind, log, force, message, expected, expected target, new target, has a parent, parent's place, leaf-previous
+abbrev pub rowWidths : List ℕ
+rowWidths = 2 ∷ 1 ∷ 1 ∷ 1 ∷ 2 ∷ 1 ∷ 1 ∷ 8 ∷ 1 ∷ 8 ∷ 1 ∷ 1 ∷ 8 ∷ []
+
+unfoldable pub rowForm : Edit → List ℕ
+rowForm r = fields rowWidths (rowPlaces r)
+
+-- a link's number has 16 bits
+abbrev pub targetFrom : ℕ → ℕ → Option OptionTarget
+targetFrom kind x = cond (eqb kind 2 && leb (2 ^ 16) x) none (targetOf kind x)
+
+-- no parent has place 0 beside it
+abbrev pub parentFrom : ℕ → ℕ → Option ParentIndex
+parentFrom zero j = cond (eqb j 0) (some NoParent) none
+parentFrom (suc zero) j = some (Parent j)
+parentFrom (suc (suc k)) j = none
+
+-- the row of thirteen numbers, read as a record of the edit list is; it is not dereferenced
+unfoldable pub rowFrom : List ℕ → Option Edit
+rowFrom xs = do
+  log ← refLogOption (refLogOf (getD xs 2 0))
+  force ← flagOf (getD xs 3 0)
+  was ← targetFrom (getD xs 6 0) (getD xs 7 0)
+  expected ← previousOption (previousOf (getD xs 5 0) was)
+  new ← targetFrom (getD xs 8 0) (getD xs 9 0)
+  change ← changeOf (getD xs 1 0) log force expected new (getD xs 4 0)
+  parent ← parentFrom (getD xs 10 0) (getD xs 11 0)
+  some
+      (record {
+        update = record { change = change; name = record { 0 = getD xs 0 0 }; deref = false };
+        «parent_index» = parent;
+        «leaf_referent_previous_oid» = record { 0 = getD xs 12 0 };
+      })
+
+unfoldable pub rowIn : List ℕ → Option Edit
+rowIn r = rowFrom (unfields 0 rowWidths r)
+
+-- ---- the code's own forms of what may be missing
+
+abbrev pub targetOption : OptionOptionTarget → Option OptionTarget
+targetOption NoTarget = none
+targetOption (optionTarget.Target t) = some t
+
+abbrev pub parentOption : OptionParent → Option ParentIndex
+parentOption NoPlace = none
+parentOption (Place p) = some p
+
+abbrev pub changeOption : OptionChange → Option Change
+changeOption NoChange = none
+changeOption (optionChange.Change c) = some c
+
+abbrev pub rowOption : OptionRow → Option Edit
+rowOption NoRow = none
+rowOption (Row r) = some r
+
+-- the thirteen numbers as a list
+abbrev pub numbers : RowNumbers → List ℕ
+numbers n =
+    n .name ∷ n .kind ∷ n .log ∷ n .force ∷ n .message ∷ n .expected ∷ n .«was_kind» ∷ n .was ∷ n .«new_kind» ∷ n .new ∷ n .«has_parent» ∷ n .parent ∷ n .leaf ∷ []
+
+-- ---- a row that its bytes can hold
+
+abbrev pub FitsOption : OptionTarget → Type 0
+FitsOption Absent = Unit {0}
+FitsOption (Present t) = FitsTarget t
+
+abbrev pub FitsParent : ParentIndex → Type 0
+FitsParent NoParent = Unit {0}
+FitsParent (Parent j) = j < 2 ^ 8
+
+pub record FitsRow (r : Edit) : Type 0 where
+  pub name : r .update .name .0 < 2 ^ 16
+  pub deref : r .update .deref ≡ false
+  pub message : messageOf (r .update .change) < 2 ^ 16
+  pub was : FitsOption (previousValue (r .update .change))
+  pub new : FitsOption (newValue (r .update .change))
+  pub parent : FitsParent (r .«parent_index»)
+  pub leaf : r .«leaf_referent_previous_oid» .0 < 2 ^ 64

@@ -1,0 +1,421 @@
+// The forms of a store's values in slots of bytes: a loose value, a packed value, a lock, a log line and a row, each read and
+// written at the region's edge. Reading a slot finds a value, or none where the bytes are no form of one.
+ghost use mathlib.Core.Path.{_≡_};
+ghost use lib.ListN.{length};
+ghost use Rattle.word.specs.Be.{val};
+ghost use Rattle.word.specs.Fields.{unfields};
+ghost use Rattle.slots.specs.Values.{looseForm, looseKind, looseNumber, looseFrom, looseIn, packedForm, packedFrom, lockForm, lockFrom, lockIn, lineFrom, lineWidths};
+ghost use Rattle.model.specs.Store.{lockByte};
+ghost use Rattle.model.specs.EditList.{changeOf};
+ghost use Rattle.slots.specs.Values.{looseOption, lockOption};
+ghost use Rattle.slots.specs.Row.{rowFrom, rowIn, rowOption, targetFrom, targetOption, parentFrom, parentOption, changeOption, numbers, rowWidths};
+use model::Line;
+use model::Lock;
+use model::Loose;
+use model::Packed;
+use target::NameNumber;
+use target::ObjectNumber;
+use target::OptionTarget;
+use target::Target;
+use transaction::Change;
+use transaction::Edit;
+use transaction::LogChange;
+use transaction::OptionPrevious;
+use transaction::OptionRefLog;
+use transaction::ParentIndex;
+use transaction::PreviousValue;
+use transaction::RefEdit;
+use transaction::RefLog;
+
+// ---- a loose value: a kind and a number
+
+pub enum OptionLoose {
+    NoLoose,
+    Loose(Loose),
+}
+
+// The kinds of a loose value, in a slot and in a load.
+impl OptionLoose {
+    pub const NONE: u64 = 0;
+
+    pub const OBJECT: u64 = 1;
+
+    pub const LINK: u64 = 2;
+
+    pub const BROKEN: u64 = 3;
+}
+
+pub fn loose_from(kind: u64, number: u64) -> OptionLoose
+    ensures { λ r. ⌜ looseOption r ≡ looseFrom kind number ⌝ }
+{
+    match kind {
+        OptionLoose::NONE => {
+            if number != 0 {
+                return OptionLoose::NoLoose;
+            }
+            OptionLoose::Loose(Loose::None)
+        }
+        OptionLoose::OBJECT => {
+            if number == ObjectNumber::NULL {
+                return OptionLoose::NoLoose;
+            }
+            OptionLoose::Loose(Loose::Target(Target::Object(ObjectNumber(number))))
+        }
+        OptionLoose::LINK => {
+            if number >= 65536 {
+                return OptionLoose::NoLoose;
+            }
+            OptionLoose::Loose(Loose::Target(Target::Symbolic(NameNumber(number as u16))))
+        }
+        OptionLoose::BROKEN => {
+            if number != 0 {
+                return OptionLoose::NoLoose;
+            }
+            OptionLoose::Loose(Loose::Broken)
+        }
+        _ => OptionLoose::NoLoose,
+    }
+}
+
+pub fn get_loose(slot: &[u8]) -> OptionLoose
+    requires { ⌜ length (now slot) ≡ 9 ⌝ }
+    ensures { λ r. ⌜ looseOption r ≡ looseIn (now (slot .entry)) ⌝ }
+{
+    let kind = word::get(&slot[0..1]);
+    let number = word::get(&slot[1..9]);
+    loose_from(kind, number)
+}
+
+pub fn loose_kind(v: Loose) -> u8
+    ensures { λ r. ⌜ r ≡ looseKind v ⌝ }
+{
+    match v {
+        Loose::None => 0,
+        Loose::Target(t) => match t {
+            Target::Object(_) => 1,
+            Target::Symbolic(_) => 2,
+        },
+        Loose::Broken => 3,
+    }
+}
+
+pub fn loose_number(v: Loose) -> u64
+    ensures { λ r. ⌜ r ≡ looseNumber v ⌝ }
+{
+    match v {
+        Loose::None => 0,
+        Loose::Target(t) => match t {
+            Target::Object(oid) => oid.0,
+            Target::Symbolic(name) => name.0 as u64,
+        },
+        Loose::Broken => 0,
+    }
+}
+
+pub fn put_loose(slot: &mut [u8], v: Loose)
+    requires { ⌜ length (now slot) ≡ 9 ⌝ }
+    ensures { λ _. ⌜ now (slot .exit) ≡ looseForm v ⌝ }
+{
+    let kind = loose_kind(v);
+    let number = loose_number(v);
+    word::put8(&mut slot[0..1], kind);
+    word::put64(&mut slot[1..9], number);
+}
+
+// ---- a packed value: its object's number, 0 for none
+
+pub fn get_packed(slot: &[u8]) -> Packed
+    requires { ⌜ length (now slot) ≡ 8 ⌝ }
+    ensures { λ r. ⌜ r ≡ packedFrom (val (now (slot .entry))) ⌝ }
+{
+    let number = word::get(slot);
+    if number == ObjectNumber::NULL {
+        Packed::None
+    } else {
+        Packed::Object(ObjectNumber(number))
+    }
+}
+
+pub fn put_packed(slot: &mut [u8], v: Packed)
+    requires { ⌜ length (now slot) ≡ 8 ⌝ }
+    ensures { λ _. ⌜ now (slot .exit) ≡ packedForm v ⌝ }
+{
+    match v {
+        Packed::None => word::put64(slot, ObjectNumber::NULL),
+        Packed::Object(oid) => word::put64(slot, oid.0),
+    }
+}
+
+// ---- a lock: 0 free, 1 foreign, 2 ours
+
+pub enum OptionLock {
+    NoLock,
+    Lock(Lock),
+}
+
+impl OptionLock {
+    pub const FREE: u64 = 0;
+
+    pub const FOREIGN: u64 = 1;
+
+    pub const OURS: u64 = 2;
+}
+
+pub fn lock_from(byte: u64) -> OptionLock
+    ensures { λ r. ⌜ lockOption r ≡ lockFrom byte ⌝ }
+{
+    match byte {
+        OptionLock::FREE => OptionLock::Lock(Lock::Free),
+        OptionLock::FOREIGN => OptionLock::Lock(Lock::Foreign),
+        OptionLock::OURS => OptionLock::Lock(Lock::Ours),
+        _ => OptionLock::NoLock,
+    }
+}
+
+pub fn get_lock(slot: &[u8]) -> OptionLock
+    requires { ⌜ length (now slot) ≡ 1 ⌝ }
+    ensures { λ r. ⌜ lockOption r ≡ lockIn (now (slot .entry)) ⌝ }
+{
+    lock_from(word::get(slot))
+}
+
+pub fn lock_byte(v: Lock) -> u8
+    ensures { λ r. ⌜ r ≡ lockByte v ⌝ }
+{
+    match v {
+        Lock::Free => 0,
+        Lock::Foreign => 1,
+        Lock::Ours => 2,
+    }
+}
+
+pub fn put_lock(slot: &mut [u8], v: Lock)
+    requires { ⌜ length (now slot) ≡ 1 ⌝ }
+    ensures { λ _. ⌜ now (slot .exit) ≡ lockForm v ⌝ }
+{
+    let byte = lock_byte(v);
+    word::put8(slot, byte);
+}
+
+// ---- a log line
+
+pub fn get_line(slot: &[u8]) -> Line
+    requires { ⌜ length (now slot) ≡ 22 ⌝ }
+    ensures { λ r. ⌜ r ≡ lineFrom (unfields 0 lineWidths (now (slot .entry))) ⌝ }
+{
+    let name = word::get16(&slot[0..2]);
+    let previous = word::get(&slot[2..10]);
+    let new = word::get(&slot[10..18]);
+    let committer = word::get16(&slot[18..20]);
+    let message = word::get16(&slot[20..22]);
+    Line {
+        name: NameNumber(name),
+        previous: ObjectNumber(previous),
+        new: ObjectNumber(new),
+        committer: committer,
+        message: message,
+    }
+}
+
+// ---- a row: thirteen numbers
+
+// The numbers of a row, in the order in which a slot has them and reading a row answers them.
+pub struct RowNumbers {
+    pub name: u16,
+    pub kind: u64,
+    pub log: u64,
+    pub force: u64,
+    pub message: u16,
+    pub expected: u64,
+    pub was_kind: u64,
+    pub was: u64,
+    pub new_kind: u64,
+    pub new: u64,
+    pub has_parent: u64,
+    pub parent: u64,
+    pub leaf: u64,
+}
+
+pub enum OptionRow {
+    NoRow,
+    Row(Edit),
+}
+
+pub enum OptionParent {
+    NoPlace,
+    Place(ParentIndex),
+}
+
+pub enum OptionOptionTarget {
+    NoTarget,
+    Target(OptionTarget),
+}
+
+pub enum OptionChange {
+    NoChange,
+    Change(Change),
+}
+
+fn get_numbers(slot: &[u8]) -> RowNumbers
+    requires { ⌜ length (now slot) ≡ 36 ⌝ }
+    ensures { λ r. ⌜ numbers r ≡ unfields 0 rowWidths (now (slot .entry)) ⌝ }
+{
+    let name = word::get16(&slot[0..2]);
+    let kind = word::get(&slot[2..3]);
+    let log = word::get(&slot[3..4]);
+    let force = word::get(&slot[4..5]);
+    let message = word::get16(&slot[5..7]);
+    let expected = word::get(&slot[7..8]);
+    let was_kind = word::get(&slot[8..9]);
+    let was = word::get(&slot[9..17]);
+    let new_kind = word::get(&slot[17..18]);
+    let new = word::get(&slot[18..26]);
+    let has_parent = word::get(&slot[26..27]);
+    let parent = word::get(&slot[27..28]);
+    let leaf = word::get(&slot[28..36]);
+    RowNumbers {
+        name: name,
+        kind: kind,
+        log: log,
+        force: force,
+        message: message,
+        expected: expected,
+        was_kind: was_kind,
+        was: was,
+        new_kind: new_kind,
+        new: new,
+        has_parent: has_parent,
+        parent: parent,
+        leaf: leaf,
+    }
+}
+
+pub fn target_from(kind: u64, number: u64) -> OptionOptionTarget
+    ensures { λ r. ⌜ targetOption r ≡ targetFrom kind number ⌝ }
+{
+    match kind {
+        OptionTarget::NONE => {
+            if number != 0 {
+                return OptionOptionTarget::NoTarget;
+            }
+            OptionOptionTarget::Target(OptionTarget::Absent)
+        }
+        OptionTarget::OBJECT => {
+            if number == ObjectNumber::NULL {
+                return OptionOptionTarget::NoTarget;
+            }
+            OptionOptionTarget::Target(OptionTarget::Present(Target::Object(ObjectNumber(number))))
+        }
+        OptionTarget::SYMBOLIC => {
+            if number >= 65536 {
+                return OptionOptionTarget::NoTarget;
+            }
+            OptionOptionTarget::Target(OptionTarget::Present(Target::Symbolic(NameNumber(
+                number as u16,
+            ))))
+        }
+        _ => OptionOptionTarget::NoTarget,
+    }
+}
+
+pub fn parent_from(has: u64, place: u64) -> OptionParent
+    ensures { λ r. ⌜ parentOption r ≡ parentFrom has place ⌝ }
+{
+    match has {
+        0 => {
+            if place != 0 {
+                return OptionParent::NoPlace;
+            }
+            OptionParent::Place(ParentIndex::NoParent)
+        }
+        1 => OptionParent::Place(ParentIndex::Parent(place as usize)),
+        _ => OptionParent::NoPlace,
+    }
+}
+
+// A delete has no force, no message and no new target; an update has one.
+pub fn change_from(
+    kind: u64,
+    log: RefLog,
+    force: bool,
+    expected: PreviousValue,
+    new: OptionTarget,
+    message: u16,
+) -> OptionChange
+    ensures { λ r. ⌜ changeOption r ≡ changeOf kind log force expected new message ⌝ }
+{
+    match kind {
+        Change::UPDATE => {
+            let OptionTarget::Present(target) = new else {
+                return OptionChange::NoChange;
+            };
+            OptionChange::Change(Change::Update {
+                log: LogChange {
+                    mode: log,
+                    force_create_reflog: force,
+                    message: message,
+                },
+                expected: expected,
+                new: target,
+            })
+        }
+        Change::DELETE => {
+            if force || message != 0 {
+                return OptionChange::NoChange;
+            }
+            match new {
+                OptionTarget::Present(_) => OptionChange::NoChange,
+                OptionTarget::Absent => OptionChange::Change(Change::Delete {
+                    expected: expected,
+                    log: log,
+                }),
+            }
+        }
+        _ => OptionChange::NoChange,
+    }
+}
+
+fn row_from(n: RowNumbers) -> OptionRow
+    ensures { λ r. ⌜ rowOption r ≡ rowFrom (numbers n) ⌝ }
+{
+    let OptionRefLog::RefLog(log) = RefLog::new(n.log) else {
+        return OptionRow::NoRow;
+    };
+    if n.force > 1 {
+        return OptionRow::NoRow;
+    }
+    let OptionOptionTarget::Target(was) = target_from(n.was_kind, n.was) else {
+        return OptionRow::NoRow;
+    };
+    let OptionPrevious::Previous(expected) = PreviousValue::new(n.expected, was) else {
+        return OptionRow::NoRow;
+    };
+    let OptionOptionTarget::Target(new) = target_from(n.new_kind, n.new) else {
+        return OptionRow::NoRow;
+    };
+    let OptionChange::Change(change) = change_from(
+        n.kind,
+        log,
+        n.force == 1,
+        expected,
+        new,
+        n.message,
+    ) else {
+        return OptionRow::NoRow;
+    };
+    let OptionParent::Place(parent) = parent_from(n.has_parent, n.parent) else {
+        return OptionRow::NoRow;
+    };
+    OptionRow::Row(Edit {
+        update: RefEdit::new(change, NameNumber(n.name), false),
+        parent_index: parent,
+        leaf_referent_previous_oid: ObjectNumber(n.leaf),
+    })
+}
+
+pub fn get_row(slot: &[u8]) -> OptionRow
+    requires { ⌜ length (now slot) ≡ 36 ⌝ }
+    ensures { λ r. ⌜ rowOption r ≡ rowIn (now (slot .entry)) ⌝ }
+{
+    row_from(get_numbers(slot))
+}
