@@ -33,21 +33,11 @@ module _ (p n : List ℕ) (i : ℕ) (h : begins (drop i p) (drop i n) ≡ begins
 
 -- ---- two strings are the same
 
-pub same-not : (a b : List ℕ) → (length a ≡ length b → ⊥) → false ≡ sameBytes a b
+same-not : (a b : List ℕ) → (length a ≡ length b → ⊥) → false ≡ sameBytes a b
 same-not [] [] d = absurd (d refl)
 same-not [] (y ∷ ys) d = refl
 same-not (x ∷ xs) [] d = refl
 same-not (x ∷ xs) (y ∷ ys) d = rw (← same-not xs ys (λ e. d (ap suc e))) (sym (and-false (eqb x y)))
-
-begins-same : (a b : List ℕ) → length a ≡ length b → begins a b ≡ sameBytes a b
-begins-same [] [] e = refl
-begins-same [] (y ∷ ys) e = absurd (omega arith)
-begins-same (x ∷ xs) [] e = refl
-begins-same (x ∷ xs) (y ∷ ys) e =
-    let t : length xs ≡ length ys = omega arith in ap (λ (b : Bool). eqb x y && b) (begins-same xs ys t)
-
-pub same-begins : (a b : List ℕ) (r : Bool) → length a ≡ length b → r ≡ begins a b → r ≡ sameBytes a b
-same-begins a b r e h = h ∙ begins-same a b e
 
 -- ---- one string ends another
 

@@ -4,7 +4,7 @@ use model::WriteReflog;
 use target::NameNumber;
 ghost use mathlib.Core.Path.{_≡_};
 ghost use Rattle.model.specs.Basic.{all};
-ghost use Rattle.model.specs.Names.{sameBytes, begins, within, before, isUpper, isSpecial, isComponentByte, isComponent};
+ghost use Rattle.model.specs.Names.{begins, within, before, isUpper, isSpecial, isComponentByte, isComponent};
 ghost use Rattle.model.specs.Names.{components, isRef, isName, packable, logs};
 ghost use Rattle.names.specs.Parts.{ends, toSlash};
 
@@ -25,16 +25,6 @@ pub fn begins_with(name: &[u8], prefix: &[u8]) -> bool
     true
 }
 
-// The two have the same bytes.
-pub fn same(a: &[u8], b: &[u8]) -> bool
-    ensures { λ r. ⌜ r ≡ sameBytes (now (a .entry)) (now (b .entry)) ⌝ }
-{
-    if a.len() != b.len() {
-        return false;
-    }
-    begins_with(b, a)
-}
-
 // The name ends with the suffix.
 fn ends_with(name: &[u8], suffix: &[u8]) -> bool
     ensures { λ r. ⌜ r ≡ ends (now (suffix .entry)) (now (name .entry)) ⌝ }
@@ -43,7 +33,7 @@ fn ends_with(name: &[u8], suffix: &[u8]) -> bool
         return false;
     }
     let start = name.len() - suffix.len();
-    same(suffix, &name[start..])
+    word::same(suffix, &name[start..])
 }
 
 // The part stands somewhere in the name.
@@ -243,7 +233,7 @@ pub fn is_packable(name: &[u8]) -> bool
 fn is_logged_normally(name: &[u8]) -> bool
     ensures { λ r. ⌜ r ≡ logs WriteReflog.Normal (now (name .entry)) ⌝ }
 {
-    if same(b"HEAD", name) {
+    if word::same(b"HEAD", name) {
         return true;
     }
     if begins_with(name, b"refs/heads/") {
@@ -259,7 +249,7 @@ fn is_logged_normally(name: &[u8]) -> bool
 fn is_logged_always(name: &[u8]) -> bool
     ensures { λ r. ⌜ r ≡ logs WriteReflog.Always (now (name .entry)) ⌝ }
 {
-    if same(b"HEAD", name) {
+    if word::same(b"HEAD", name) {
         return true;
     }
     begins_with(name, b"refs/")
