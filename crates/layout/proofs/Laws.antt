@@ -1,0 +1,296 @@
+-- What the tests' proofs cite, over variables. Assumes nothing.
+use mathlib.Core.Path.{_≡_, refl, sym, ap, ap₂, _∙_}
+use mathlib.Core.Bool.{Bool, true, false, not, _&&_, cond, and-true}
+use mathlib.Core.List.{List, [], _∷_, _++_}
+use Prim.Native.Nat.{ℕ, _+_, _-_, _*_, _<_, _≤_}
+use native.Mathlib.Omega.{arith}
+use lib.ListN.{length, getD, drop, length-drop}
+use lib.Seq.{take-all, drop-drop}
+use lib.Dec.{eqb, leb}
+use mir.Syntax.{w8, w64}
+use mir.Val.{Fits}
+use borrow.Author.Tests.{lt-leb, le-leb, eq-eqb, ne-eqb, not-true, not-false}
+use Rattle.word.specs.Be.{cut, val}
+use Rattle.word.specs.Codec.{isSome, zeros, okSlot, okTable}
+use Rattle.word.specs.Text.{testText}
+use Rattle.word.specs.Tests.{every}
+use Rattle.word.proofs.Be.{bytes-all, bytes-are}
+use Rattle.word.proofs.Cut.{length-cut}
+use Rattle.word.proofs.Tests.{every-false}
+use Rattle.word.proofs.Codec.{slot-end, ok-below, ok-above, okTable-more, okTable-false}
+use Rattle.slots.specs.declared.OptionLoose.{OptionLoose}
+use Rattle.slots.specs.declared.OptionLoose.the-variants as optionLoose
+use Rattle.slots.specs.declared.OptionLock.{OptionLock}
+use Rattle.slots.specs.declared.OptionLock.the-variants as optionLock
+use Rattle.slots.specs.declared.OptionRow.{OptionRow}
+use Rattle.slots.specs.declared.OptionRow.the-variants.{NoRow, Row}
+use Rattle.model.specs.declared.Loose.{Loose}
+use Rattle.model.specs.declared.Lock.{Lock}
+use Rattle.transaction.specs.declared.Edit.{Edit}
+use Rattle.slots.specs.Values.{looseIn, looseOption, lockIn, lockOption}
+use Rattle.slots.specs.Row.{rowIn, rowOption}
+use Rattle.region.specs.Region.{nameCount, lineCount, modeNumber, rowCount, layoutTests, layout}
+use Rattle.layout.specs.declared.Table.{Table}
+use Rattle.layout.specs.declared.Table.the-variants.{Names, Looses, Locks, Rows}
+use Rattle.layout.specs.Tables.{widthOf, testOf, headTests, countTests, tableTests}
+
+-- ---- lists of tests
+
+every-both : (ts us : List Bool) → every (ts ++ us) ≡ (every ts && every us)
+every-both [] us = refl
+every-both (true ∷ ts) us = every-both ts us
+every-both (false ∷ ts) us = refl
+
+-- a test that passes leaves it to the rest
+pass : {t u b : Bool} → t ≡ true → u ≡ b → t && u ≡ b
+pass p q = ap₂ (λ (t u : Bool). t && u) p q
+
+-- ---- what a slot holds
+
+module _ (s : List ℕ) where
+  pub text-long : 64 < getD s 0 0 → false ≡ testText 64 s
+  unfolding testText
+  text-long h = ap (λ (t : Bool). t && zeros (drop (getD s 0 0) (drop 1 s))) (sym (lt-leb _ _ h))
+
+  text-rest : (n : ℕ) → cut (n + 1) (length s - (n + 1)) s ≡ drop n (drop 1 s)
+  text-rest n =
+      let l : length (drop (n + 1) s) ≡ length s - (n + 1) = length-drop (n + 1) s in
+      let f : n + 1 ≡ 1 + n = omega arith in
+      take-all (length s - (n + 1)) (drop (n + 1) s) (omega arith) ∙ ap (λ (k : ℕ). drop k s) f ∙ sym (drop-drop n 1 s)
+
+  pub text-held : (b : Bool) → getD s 0 0 ≤ 64 → b ≡ zeros (cut (getD s 0 0 + 1) (length s - (getD s 0 0 + 1)) s) → b ≡ testText 64 s
+  unfolding testText
+  text-held b h e =
+      e
+      ∙ ap zeros (text-rest (getD s 0 0))
+      ∙ ap (λ (t : Bool). t && zeros (drop (getD s 0 0) (drop 1 s))) (sym (le-leb _ _ h))
+
+  module _ (o : OptionLoose) (e : looseOption o ≡ looseIn s) where
+    pub loose-bad : o ≡ optionLoose.NoLoose → false ≡ isSome (looseIn s)
+    loose-bad q = ap (λ (o : OptionLoose). isSome (looseOption o)) (sym q) ∙ ap isSome e
+
+    pub loose-held : (v : Loose) → o ≡ optionLoose.Loose v → true ≡ isSome (looseIn s)
+    loose-held v q = ap (λ (o : OptionLoose). isSome (looseOption o)) (sym q) ∙ ap isSome e
+
+  module _ (o : OptionLock) (e : lockOption o ≡ lockIn s) where
+    pub lock-bad : o ≡ optionLock.NoLock → false ≡ isSome (lockIn s)
+    lock-bad q = ap (λ (o : OptionLock). isSome (lockOption o)) (sym q) ∙ ap isSome e
+
+    pub lock-held : (v : Lock) → o ≡ optionLock.Lock v → true ≡ isSome (lockIn s)
+    lock-held v q = ap (λ (o : OptionLock). isSome (lockOption o)) (sym q) ∙ ap isSome e
+
+  module _ (o : OptionRow) (e : rowOption o ≡ rowIn s) where
+    pub row-bad : o ≡ NoRow → false ≡ isSome (rowIn s)
+    row-bad q = ap (λ (o : OptionRow). isSome (rowOption o)) (sym q) ∙ ap isSome e
+
+    pub row-held : (v : Edit) → o ≡ Row v → true ≡ isSome (rowIn s)
+    row-held v q = ap (λ (o : OptionRow). isSome (rowOption o)) (sym q) ∙ ap isSome e
+
+  -- ---- by its table
+
+  module _ (t : Table) where
+    module _ (e : length s ≡ widthOf t) where
+      pub names-wide : t ≡ Names → length s ≡ 65
+      names-wide q = e ∙ ap widthOf q
+
+      pub looses-wide : t ≡ Looses → length s ≡ 9
+      looses-wide q = e ∙ ap widthOf q
+
+      pub locks-wide : t ≡ Locks → length s ≡ 1
+      locks-wide q = e ∙ ap widthOf q
+
+      pub rows-wide : t ≡ Rows → length s ≡ 36
+      rows-wide q = e ∙ ap widthOf q
+
+    module _ (b : Bool) where
+      pub names-held : t ≡ Names → b ≡ testText 64 s → b ≡ testOf t s
+      names-held q e = e ∙ ap (λ (t : Table). testOf t s) (sym q)
+
+      pub looses-held : t ≡ Looses → b ≡ isSome (looseIn s) → b ≡ testOf t s
+      looses-held q e = e ∙ ap (λ (t : Table). testOf t s) (sym q)
+
+      pub locks-held : t ≡ Locks → b ≡ isSome (lockIn s) → b ≡ testOf t s
+      locks-held q e = e ∙ ap (λ (t : Table). testOf t s) (sym q)
+
+      pub rows-held : t ≡ Rows → b ≡ isSome (rowIn s) → b ≡ testOf t s
+      rows-held q e = e ∙ ap (λ (t : Table). testOf t s) (sym q)
+
+  -- ---- held, or zeros
+
+  module _ (test : List ℕ → Bool) (n i : ℕ) (b : Bool) where
+    pub slot-held : i < n → b ≡ test s → b ≡ okSlot test n i s
+    slot-held h e = e ∙ sym (ok-below test n i s h)
+
+    pub slot-free : n ≤ i → b ≡ zeros s → b ≡ okSlot test n i s
+    slot-free h e = e ∙ sym (ok-above test n i s h)
+
+-- ---- the loop over a table's slots
+
+pub slot-order : (a w : ℕ) → a ≤ a + w
+slot-order a w = omega arith
+
+lent : (a w : ℕ) → a + w - a ≡ w
+lent a w = omega arith
+
+module _ (r : List ℕ) (base w c i : ℕ) (h : i < c) (g : base + c * w ≤ length r) where
+  module _ (e : length r ≡ 49549) where
+    pub slot-offset : Fits w64 (i * w)
+    slot-offset = let f : base + i * w + w ≤ length r = slot-end base w c i r h g in record { fits = omega arith }
+
+    pub slot-from : Fits w64 (base + i * w)
+    slot-from = let f : base + i * w + w ≤ length r = slot-end base w c i r h g in record { fits = omega arith }
+
+    pub slot-to : Fits w64 (base + i * w + w)
+    slot-to = let f : base + i * w + w ≤ length r = slot-end base w c i r h g in record { fits = omega arith }
+
+  pub slot-wide : (t : Table) → w ≡ widthOf t → length (cut (base + i * w) (base + i * w + w - (base + i * w)) r) ≡ widthOf t
+  slot-wide t e =
+      ap (λ (k : ℕ). length (cut (base + i * w) k r)) (lent (base + i * w) w)
+      ∙ length-cut (base + i * w) w r (slot-end base w c i r h g)
+      ∙ e
+
+module _ (w : ℕ) (test : List ℕ → Bool) (i n base : ℕ) (r : List ℕ) where
+  module _ (ok : Bool) (e : ok ≡ okSlot test n i (cut (base + i * w) (base + i * w + w - (base + i * w)) r)) where
+    slot-is : okSlot test n i (cut (base + i * w) w r) ≡ ok
+    slot-is = ap (λ (k : ℕ). okSlot test n i (cut (base + i * w) k r)) (sym (lent (base + i * w) w)) ∙ sym e
+
+    pub table-more : okTable w test i n base r ≡ true → ok ≡ true → okTable w test (i + 1) n base r ≡ true
+    table-more h t = okTable-more w test i n base r h (slot-is ∙ t)
+
+    pub table-stop : (c : ℕ) → i < c → ok ≡ false → false ≡ okTable w test c n base r
+    table-stop c h t = sym (okTable-false w test c i n base r h (slot-is ∙ t))
+
+  pub table-end : (c : ℕ) → c ≤ i → i ≤ c → okTable w test i n base r ≡ true → true ≡ okTable w test c n base r
+  table-end c p q e = let f : i ≡ c = omega arith in sym (rw f at e)
+
+-- ---- the head
+
+pub rows-idle : (m : ℕ) → m ≡ 0 → _≡_ {A = ℕ} 0 (cond (eqb m 0) 0 160)
+rows-idle m e = ap (λ (t : Bool). cond t 0 160) (sym (eq-eqb m 0 e))
+
+pub rows-busy : (m : ℕ) → (m ≡ 0 → ⊥) → _≡_ {A = ℕ} 160 (cond (eqb m 0) 0 160)
+rows-busy m e = ap (λ (t : Bool). cond t 0 160) (sym (ne-eqb m 0 e))
+
+module _ (r : List ℕ) where
+  module _ (m : ℕ) (e : m ≡ val (cut 10 1 r)) where
+    pub mode-bad : 3 < m → false ≡ every (countTests r)
+    unfolding countTests modeNumber
+    mode-bad h = sym (every-false (countTests r) 0 (lt-leb _ _ (rw e at h)))
+
+    module _ (x b : ℕ) (f : x ≡ val (cut 11 1 r)) (p : b ≡ cond (eqb m 0) 0 160) where
+      rows-is : leb (rowCount r) (cond (eqb (modeNumber r) 0) 0 160) ≡ leb x b
+      unfolding rowCount modeNumber
+      rows-is = ap₂ (λ (x m : ℕ). leb x (cond (eqb m 0) 0 160)) (sym f) (sym e) ∙ ap (leb x) (sym p)
+
+      pub rows-bad : b < x → false ≡ every (countTests r)
+      unfolding countTests
+      rows-bad h = sym (every-false (countTests r) 1 (rows-is ∙ lt-leb x b h))
+
+      pub counts-rest : (y : ℕ) → m ≤ 3 → x ≤ b → y ≡ val (cut 12 1 r) → leb y 2 ≡ every (countTests r)
+      unfolding countTests modeNumber
+      counts-rest y h k q =
+          sym (pass (le-leb _ _ (rw e at h)) (pass (rows-is ∙ le-leb x b k) (and-true _ ∙ ap (λ (y : ℕ). leb y 2) (sym q))))
+
+  module _ (x : ℕ) where
+    pub version-bad : x ≡ val (cut 0 1 r) → (x ≡ 1 → ⊥) → false ≡ every (headTests r)
+    unfolding headTests
+    version-bad e p = sym (every-false (headTests r) 0 (ne-eqb _ _ (λ q. p (e ∙ q))))
+
+    pub size-bad : x ≡ val (cut 1 4 r) → (x ≡ 49544 → ⊥) → false ≡ every (headTests r)
+    unfolding headTests
+    size-bad e p = sym (every-false (headTests r) 1 (ne-eqb _ _ (λ q. p (e ∙ q))))
+
+    pub setting-bad : x ≡ val (cut 5 1 r) → 2 < x → false ≡ every (headTests r)
+    unfolding headTests
+    setting-bad e p = sym (every-false (headTests r) 2 (lt-leb _ _ (rw e at p)))
+
+    pub names-bad : x ≡ val (cut 6 2 r) → 256 < x → false ≡ every (headTests r)
+    unfolding headTests nameCount
+    names-bad e p = sym (every-false (headTests r) 3 (lt-leb _ _ (rw e at p)))
+
+    pub lines-bad : x ≡ val (cut 8 2 r) → 1024 < x → false ≡ every (headTests r)
+    unfolding headTests lineCount
+    lines-bad e p = sym (every-false (headTests r) 4 (lt-leb _ _ (rw e at p)))
+
+  pub head-rest : (v z s n m : ℕ) (b : Bool) → v ≡ val (cut 0 1 r) → v ≡ 1 → z ≡ val (cut 1 4 r) → z ≡ 49544
+      → s ≡ val (cut 5 1 r) → s ≤ 2 → n ≡ val (cut 6 2 r) → n ≤ 256 → m ≡ val (cut 8 2 r) → m ≤ 1024
+      → b ≡ every (countTests r) → b ≡ every (headTests r)
+  unfolding headTests countTests nameCount lineCount
+  head-rest v z s n m b v= v1 z= z1 s= s1 n= n1 m= m1 e =
+      sym (pass (eq-eqb _ _ (sym v= ∙ v1))
+      (pass (eq-eqb _ _ (sym z= ∙ z1))
+      (pass (le-leb _ _ (rw s= at s1))
+      (pass (le-leb _ _ (rw n= at n1))
+      (pass (le-leb _ _ (rw m= at m1)) (sym e))))))
+
+-- ---- the tables
+
+module _ (r : List ℕ) where
+  -- a table's test with the count as it was read
+  module _ (w : ℕ) (test : List ℕ → Bool) (c base : ℕ) {n k : ℕ} {ok : Bool} (e : n ≡ k) (p : ok ≡ okTable w test c n base r) where
+    table-is : okTable w test c k base r ≡ ok
+    table-is = ap (λ (n : ℕ). okTable w test c n base r) (sym e) ∙ sym p
+
+    table-fails : not ok ≡ true → okTable w test c k base r ≡ false
+    table-fails q = table-is ∙ not-true ok q
+
+    table-passes : not ok ≡ false → okTable w test c k base r ≡ true
+    table-passes q = table-is ∙ not-false ok q
+
+  module _ (n : ℕ) (e : n ≡ val (cut 6 2 r)) (ok : Bool) where
+    pub names-fail : ok ≡ okTable 65 (testText 64) 256 n 13 r → not ok ≡ true → false ≡ every (tableTests r)
+    unfolding tableTests nameCount
+    names-fail p q = sym (every-false (tableTests r) 0 (table-fails _ _ _ _ e p q))
+
+    pub looses-fail : ok ≡ okTable 9 (λ x. isSome (looseIn x)) 256 n 16653 r → not ok ≡ true → false ≡ every (tableTests r)
+    unfolding tableTests nameCount
+    looses-fail p q = sym (every-false (tableTests r) 1 (table-fails _ _ _ _ e p q))
+
+    pub packeds-fail : ok ≡ okTable 8 (λ x. true) 256 n 18957 r → not ok ≡ true → false ≡ every (tableTests r)
+    unfolding tableTests nameCount
+    packeds-fail p q = sym (every-false (tableTests r) 2 (table-fails _ _ _ _ e p q))
+
+    pub locks-fail : ok ≡ okTable 1 (λ x. isSome (lockIn x)) 256 n 21005 r → not ok ≡ true → false ≡ every (tableTests r)
+    unfolding tableTests nameCount
+    locks-fail p q = sym (every-false (tableTests r) 3 (table-fails _ _ _ _ e p q))
+
+  pub rows-fail : (n : ℕ) (ok : Bool) → n ≡ val (cut 11 1 r) → ok ≡ okTable 36 (λ x. isSome (rowIn x)) 160 n 21261 r
+      → not ok ≡ true → false ≡ every (tableTests r)
+  unfolding tableTests rowCount
+  rows-fail n ok e p q = sym (every-false (tableTests r) 4 (table-fails _ _ _ _ e p q))
+
+  pub tables-rest : (n m k : ℕ) (a b c d e f : Bool) → n ≡ val (cut 6 2 r) → m ≡ val (cut 8 2 r) → k ≡ val (cut 11 1 r)
+      → a ≡ okTable 65 (testText 64) 256 n 13 r → not a ≡ false
+      → b ≡ okTable 9 (λ x. isSome (looseIn x)) 256 n 16653 r → not b ≡ false
+      → c ≡ okTable 8 (λ x. true) 256 n 18957 r → not c ≡ false
+      → d ≡ okTable 1 (λ x. isSome (lockIn x)) 256 n 21005 r → not d ≡ false
+      → e ≡ okTable 36 (λ x. isSome (rowIn x)) 160 k 21261 r → not e ≡ false
+      → f ≡ okTable 22 (λ x. true) 1024 m 27021 r → f ≡ every (tableTests r)
+  unfolding tableTests nameCount lineCount rowCount
+  tables-rest n m k a b c d e f n= m= k= a= a1 b= b1 c= c1 d= d1 e= e1 f= =
+      sym (pass (table-passes _ _ _ _ n= a= a1)
+      (pass (table-passes _ _ _ _ n= b= b1)
+      (pass (table-passes _ _ _ _ n= c= c1)
+      (pass (table-passes _ _ _ _ n= d= d1)
+      (pass (table-passes _ _ _ _ k= e= e1) (and-true _ ∙ table-is _ _ _ _ m= f=))))))
+
+-- ---- the layout
+
+module _ (r : List ℕ) where
+  pub layout-size : (length r ≡ 49549 → ⊥) → false ≡ layout r
+  unfolding layout layoutTests
+  layout-size p = sym (every-false (layoutTests r) 0 (ne-eqb _ _ p))
+
+  -- every slice holds bytes
+  module _ (h : (i : ℕ) → Fits w8 (getD r i 0)) (e : length r ≡ 49549) where
+    layout-is : layout r ≡ (every (headTests r) && every (tableTests r))
+    unfolding layout layoutTests headTests tableTests
+    layout-is =
+        ap₂ (λ (a b : Bool). a && (b && every (headTests r ++ tableTests r))) (eq-eqb _ _ e) (bytes-are (bytes-all r (λ i. h i .fits)))
+        ∙ every-both (headTests r) (tableTests r)
+
+    pub layout-head : (ok : Bool) → ok ≡ every (headTests r) → not ok ≡ true → false ≡ layout r
+    layout-head ok p q = sym (layout-is ∙ ap (λ (t : Bool). t && every (tableTests r)) (sym p ∙ not-true ok q))
+
+    pub layout-tables : (ok b : Bool) → ok ≡ every (headTests r) → not ok ≡ false → b ≡ every (tableTests r) → b ≡ layout r
+    layout-tables ok b p q f = f ∙ sym (layout-is ∙ ap (λ (t : Bool). t && every (tableTests r)) (sym p ∙ not-false ok q))

@@ -1,0 +1,56 @@
+use native.Mathlib.Omega.{arith}
+use mathlib.Core.Bool.{true}
+use mathlib.Core.Path.{_≡_}
+use Prim.Native.Nat.{_-_, _≤_}
+use Rattle.model.specs.Basic.{below}
+use Rattle.region.specs.Region.{view}
+use Rattle.model.specs.Fine.{apartNames}
+use Rattle.rules.proofs.Laws.{loop-none, loop-more, loop-stop, loop-end}
+use borrow.Author.Needs.{needs}
+use Rattle.rules.proofs.names_apart.Statement.{statement}
+use Rattle.rules.proofs.names_apart.Tie as tie
+
+abbrev Inv-loop : tie.InvT-loop
+Inv-loop region k n₀ n = (n ≤ k) × (below n (λ n. below n (apartNames (view region) n)) ≡ true)
+
+abbrev μ-loop : tie.MeasureT-loop
+μ-loop region k n₀ n = k - n
+
+count-names-requires : tie.Need-count-names-requires Inv-loop μ-loop
+count-names-requires c κs = search needs
+
+loop-holds : tie.Need-loop-holds Inv-loop μ-loop
+loop-holds c = (omega arith, loop-none _)
+
+name-apart-requires : tie.Need-name-apart-requires Inv-loop μ-loop
+name-apart-requires c κs = search needs
+
+add-n : tie.Need-add-n Inv-loop μ-loop
+add-n c = search needs
+
+loop-less : tie.Need-loop-less Inv-loop μ-loop
+loop-less c = search needs
+
+loop-again : tie.Need-loop-again Inv-loop μ-loop
+loop-again c = (omega arith, search loop-more)
+
+returns : tie.Need-returns Inv-loop μ-loop
+returns c = search loop-stop
+
+returns-2 : tie.Need-returns-2 Inv-loop μ-loop
+returns-2 c = search loop-end
+
+pub names-apart-spec : {M : Type 1} → statement M
+names-apart-spec =
+    tie.close
+    (tie.spec
+    Inv-loop
+    μ-loop
+    count-names-requires
+    loop-holds
+    name-apart-requires
+    add-n
+    loop-less
+    loop-again
+    returns
+    returns-2)

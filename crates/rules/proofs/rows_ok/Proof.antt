@@ -1,0 +1,57 @@
+use native.Mathlib.Omega.{arith}
+use mathlib.Core.Bool.{true}
+use mathlib.Core.Path.{_≡_}
+use Prim.Native.Nat.{_-_, _≤_}
+use Rattle.model.specs.Basic.{below}
+use Rattle.region.specs.Region.{view}
+use Rattle.model.specs.Store.{count, rowsIn}
+use Rattle.model.specs.Fine.{fineRow}
+use Rattle.rules.proofs.Laws.{loop-none, loop-more, loop-stop, loop-end}
+use borrow.Author.Needs.{needs}
+use Rattle.rules.proofs.rows_ok.Statement.{statement}
+use Rattle.rules.proofs.rows_ok.Tie as tie
+
+abbrev Inv-loop : tie.InvT-loop
+Inv-loop region m i₀ i = (i ≤ m) × (below i (fineRow (count (view region)) (rowsIn (view region .prepared))) ≡ true)
+
+abbrev μ-loop : tie.MeasureT-loop
+μ-loop region m i₀ i = m - i
+
+count-rows-requires : tie.Need-count-rows-requires Inv-loop μ-loop
+count-rows-requires c κs = search needs
+
+loop-holds : tie.Need-loop-holds Inv-loop μ-loop
+loop-holds c = (omega arith, loop-none _)
+
+row-ok-requires : tie.Need-row-ok-requires Inv-loop μ-loop
+row-ok-requires c κs = search needs
+
+add-i : tie.Need-add-i Inv-loop μ-loop
+add-i c = search needs
+
+loop-less : tie.Need-loop-less Inv-loop μ-loop
+loop-less c = search needs
+
+loop-again : tie.Need-loop-again Inv-loop μ-loop
+loop-again c = (omega arith, search loop-more)
+
+returns : tie.Need-returns Inv-loop μ-loop
+returns c = search loop-stop
+
+returns-2 : tie.Need-returns-2 Inv-loop μ-loop
+returns-2 c = search loop-end
+
+pub rows-ok-spec : {M : Type 1} → statement M
+rows-ok-spec =
+    tie.close
+    (tie.spec
+    Inv-loop
+    μ-loop
+    count-rows-requires
+    loop-holds
+    row-ok-requires
+    add-i
+    loop-less
+    loop-again
+    returns
+    returns-2)
