@@ -20,6 +20,7 @@ use Rattle.model.specs.Rows.{opens}
 use Rattle.model.specs.Fine.{Fine, fineLoose, finePacked, fineEntry, fineLine, fineLock, keptFor, apartNames}
 use Rattle.model.specs.Commit.{released, freed}
 use Rattle.model.specs.Reached.{Sound}
+use Rattle.model.proofs.Release.{released-at, freed-not-ours}
 
 -- ---- an entry after a change
 
@@ -164,16 +165,6 @@ idle-sound s b e free packedFree = fine-sound s (idle-fine s b e free packedFree
 
 -- ---- after commit or rollback
 
-freed-free : (l : Lock) → isLock Ours (freed l) ≡ false
-freed-free Free = refl
-freed-free Foreign = refl
-freed-free Ours = refl
-
--- an entry's lock is freed, and nothing else of it is changed
-pub released-at : (s : Store) (n : ℕ) → entryAt (released s) n ≡ putLock (freed (entryAt s n .lock)) (entryAt s n)
-unfolding released
-released-at s n = mapped-at (λ (e : Entry). putLock (freed (e .lock)) e) refl n (s .entries)
-
 pub released-count : (s : Store) → count (released s) ≡ count s
 unfolding released
 released-count s = length-map (s .entries) _
@@ -192,8 +183,8 @@ pub released-fine : (s : Store) → Base s → Fine (released s)
 unfolding released
 released-fine s b =
     idle-fine (released s) (released-base s b) refl
-    (λ n h. rw released-at (freed-free (entryAt s n .lock)))
-    (freed-free (s .packedLock))
+    (λ n h. rw released-at (freed-not-ours (entryAt s n .lock)))
+    (freed-not-ours (s .packedLock))
 
 pub released-sound : (s : Store) → Base s → Sound (released s)
 unfolding released

@@ -13,7 +13,7 @@ use Rattle.transaction.specs.declared.PackedRefs.{PackedRefs}
 use Rattle.transaction.specs.declared.Edit.{Edit}
 use Rattle.model.specs.declared.Lock.the-variants.{Ours}
 use Rattle.model.specs.Basic.{any}
-use Rattle.model.specs.Store.{Store, Entry, Prepared, noEntry, count, entryAt, rowsIn, modeIn, isLock, putLock, changeAt}
+use Rattle.model.specs.Store.{noRow, Store, Entry, Prepared, noEntry, count, entryAt, rowsIn, modeIn, isLock, putLock, changeAt}
 use Rattle.model.specs.Read.{valueOf}
 use Rattle.model.specs.Rows.{nameIn, rowAt, opens, keepsLock}
 use Rattle.model.specs.Due.{dueLines}
@@ -23,7 +23,8 @@ use Rattle.model.specs.Prepare.{turnsFrom, holding, held}
 use Rattle.model.specs.Reached.{agrees, Sound}
 use Rattle.model.proofs.RowsFine.{RowsFine}
 use Rattle.model.proofs.Alike.{alike-opens}
-use Rattle.model.proofs.SameRefs.{unlocked, SameRefs, any-same, same-count, same-at, same-opens, same-keepsLock, same-dueLines}
+use Rattle.model.proofs.Places.{any-same}
+use Rattle.model.proofs.SameRefs.{unlocked, SameRefs, same-count, same-at, same-opens, same-keepsLock, same-dueLines}
 use Rattle.model.proofs.Turns.{Agreed, Turned, turns-fine}
 
 -- ---- tests
@@ -124,9 +125,10 @@ module _ (p : Prepared) (s t : Store) (h : Holds p s t) (f : Fine s) where
   kept : (n : ℕ) → keptFor t n ≡ keeping s (p .mode) (p .rows) n
   unfolding keptFor
   kept n =
-      any-same _ _
-      (λ r. ap (λ (k : Bool). eqb (nameIn r .0) n && k) (same-keepsLock t s (h .refs) (modeIn (t .prepared)) r))
-      (rowsIn (t .prepared))
+      any-same _ _ noRow (rowsIn (t .prepared))
+      (λ i g.
+      ap (λ (k : Bool). eqb (nameIn (rowAt (rowsIn (t .prepared)) i) .0) n && k)
+      (same-keepsLock t s (h .refs) (modeIn (t .prepared)) (rowAt (rowsIn (t .prepared)) i)))
       ∙ ap (λ (x : Option Prepared). keeping s (modeIn x) (rowsIn x) n) (h .prepared)
 
   holds-lock : (n : ℕ) → n < count s → fineLock t n ≡ true

@@ -34,7 +34,7 @@ pub released-at : (s : Store) (n : ℕ) → entryAt (released s) n ≡ putLock (
 unfolding released
 released-at s n = List·getD-map (λ (e : Entry). putLock (freed (e .lock)) e) (s .entries) n noEntry
 
-freed-not-ours : (l : Lock) → isLock Ours (freed l) ≡ false
+pub freed-not-ours : (l : Lock) → isLock Ours (freed l) ≡ false
 freed-not-ours Free = refl
 freed-not-ours Foreign = refl
 freed-not-ours Ours = refl

@@ -9,10 +9,11 @@ use Rattle.transaction.specs.declared.PackedRefs.{PackedRefs}
 use Rattle.transaction.specs.declared.Edit.{Edit}
 use Rattle.model.specs.declared.Lock.the-variants.{Free}
 use Rattle.model.specs.Basic.{any, collect}
-use Rattle.model.specs.Store.{Store, Entry, noEntry, count, entryAt, nameOf, linesOf, isPacked, putLock}
+use Rattle.model.specs.Store.{Store, Entry, noEntry, noRow, count, entryAt, nameOf, linesOf, isPacked, putLock}
 use Rattle.model.specs.Rows.{nameIn, counts, countsAsUpdate, opens, isDirect, keepsLock}
 use Rattle.model.specs.Due.{Stamp, isLogged, dueLine, unsigned, dueLines}
 use Rattle.model.proofs.Alike.{any-map}
+use Rattle.model.proofs.Places.{any-same, collect-same}
 
 -- an entry whatever its lock
 abbrev pub unlocked : Entry → Entry
@@ -22,16 +23,6 @@ pub record SameRefs (s t : Store) : Type 0 where
   pub refs : map unlocked (s .entries) ≡ map unlocked (t .entries)
   pub lines : s .lines ≡ t .lines
   pub setting : s .setting ≡ t .setting
-
--- ---- lists
-
-pub any-same : {A : Type 0} (p q : A → Bool) → ((a : A) → p a ≡ q a) → (l : List A) → any p l ≡ any q l
-any-same p q h [] = refl
-any-same p q h (a ∷ l) = rw (h a, any-same p q h l)
-
-pub collect-same : {A B : Type 0} (f g : A → List B) → ((a : A) → f a ≡ g a) → (l : List A) → collect f l ≡ collect g l
-collect-same f g h [] = refl
-collect-same f g h (a ∷ l) = rw (h a, collect-same f g h l)
 
 -- ---- what the two share
 
@@ -69,10 +60,10 @@ module _ (s t : Store) (e : SameRefs s t) where
   pub same-opens : (mode : PackedRefs) (rows : List Edit) → opens s mode rows ≡ opens t mode rows
   unfolding opens
   same-opens mode rows =
-      rw (any-same (counts s) (counts t) same-counts rows, updates, same-packed)
+      rw (any-same (counts s) (counts t) noRow rows (λ i h. same-counts (getD rows i noRow)), updates, same-packed)
     where
       updates : any (countsAsUpdate s) rows ≡ any (countsAsUpdate t) rows
-      updates = any-same (countsAsUpdate s) (countsAsUpdate t) (λ r. rw (same-counts r)) rows
+      updates = any-same (countsAsUpdate s) (countsAsUpdate t) noRow rows (λ i h. rw (same-counts (getD rows i noRow)))
 
   pub same-isDirect : (mode : PackedRefs) (r : Edit) → isDirect s mode r ≡ isDirect t mode r
   unfolding isDirect
@@ -87,4 +78,4 @@ module _ (s t : Store) (e : SameRefs s t) where
   same-dueLine stamp r = rw (same-name (nameIn r), same-linesOf (nameIn r), e .setting)
 
   pub same-dueLines : (rows : List Edit) → dueLines s rows ≡ dueLines t rows
-  same-dueLines = collect-same (dueLine unsigned s) (dueLine unsigned t) (same-dueLine unsigned)
+  same-dueLines rows = collect-same (dueLine unsigned s) (dueLine unsigned t) noRow rows (λ i h. same-dueLine unsigned (getD rows i noRow))

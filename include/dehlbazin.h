@@ -1,0 +1,228 @@
+/* Dehlbazin: the refs of a site's aisle layouts, in one region of bytes that the caller lends. For C and for C++.
+ *
+ * Written ahead of the archive that it is linked with, which is not built yet (README.md says what stands).
+ *
+ * docs/SPEC.md says what the calls mean, docs/ABI.md how to use them, docs/LAYOUT.md what stands in the region.
+ *
+ * Every call takes the region first, then its own arguments, then the answer record, each run of bytes as a pointer and a
+ * length. It returns a number: DEHLBAZIN_DONE, or the reason of a refusal. A refused call changes no byte of the region.
+ *
+ * The record has DEHLBAZIN_ANSWER_SIZE bytes: 16 places of 8, big-endian, which dehlbazin_place reads. A call that is given
+ * a record of that size fills all of it, with 0 in each place that it does not use. A call that is given any other size
+ * writes nothing at all and returns DEHLBAZIN_BAD_REGION.
+ *
+ * Every call tests its region whole before it does anything. It returns DEHLBAZIN_BAD_REGION, with a record of zeros, if
+ * the length is not DEHLBAZIN_REGION_SIZE or the bytes are no good store. (dehlbazin_start looks at the length alone.)
+ *
+ * Every number is passed with 64 bits. One that is too large is refused, never shortened: name 65536 + k is not name k.
+ *
+ * What no call can test, so that the caller must see to it:
+ *   - that each pointer is good for its length. (With length 0 it may be null. It need not be aligned.)
+ *   - that region, name and record lie apart. The bytes that dehlbazin_name_bytes points out lie in the region, so a
+ *     name got from it is copied before it is passed to dehlbazin_add_name.
+ *   - that calls on one region come one after the other. (Calls on different regions may come at the same time: no call
+ *     has state of its own, or keeps a pointer when it returns.)
+ */
+#ifndef DEHLBAZIN_H
+#define DEHLBAZIN_H
+
+#include <stddef.h>
+#include <stdint.h>
+
+#define DEHLBAZIN_REGION_SIZE 49549
+#define DEHLBAZIN_ANSWER_SIZE 128
+
+/* ---- the numbers that calls return. 4 to 14, 16 and 17 belong to prepare and commit, which are not here yet. */
+
+#define DEHLBAZIN_DONE 0
+#define DEHLBAZIN_BAD_REGION 1                   /* the region is not a good one, or the record has the wrong size */
+#define DEHLBAZIN_MALFORMED 2                    /* an edit list, a mode, a setting or a committer is malformed */
+#define DEHLBAZIN_NOT_REGISTERED 3               /* no name has that number, which comes back whole */
+#define DEHLBAZIN_REFERENCE_CYCLE 4              /* links are still followed in a fifth round */
+#define DEHLBAZIN_TOO_MANY_ROWS 5                /* more than 160 rows */
+#define DEHLBAZIN_MULTIPLE_EDITS 6               /* two rows have one name */
+#define DEHLBAZIN_PACKED_TRANSACTION_ACQUIRE 7   /* the packed table's lock is foreign */
+#define DEHLBAZIN_LOCK_ACQUIRE 8                 /* a name's lock is foreign */
+#define DEHLBAZIN_DELETE_REFERENCE_MUST_EXIST 9  /* a delete that expects something finds nothing */
+#define DEHLBAZIN_MUST_NOT_EXIST 10              /* an update that expects nothing finds something else than its target */
+#define DEHLBAZIN_MUST_EXIST 11                  /* an update that expects something finds nothing */
+#define DEHLBAZIN_REFERENCE_OUT_OF_DATE 12       /* another value than the expected one is there */
+#define DEHLBAZIN_DELETE_MUST_NOT_EXIST 13       /* a delete that expects nothing */
+#define DEHLBAZIN_LOG_FULL 14                    /* the log would have more than 1,024 lines */
+#define DEHLBAZIN_WRONG_STATE 15                 /* a transaction is prepared and must not be, or the other way round */
+#define DEHLBAZIN_NO_COMMITTER 16                /* commit stopped before a log line that has no committer */
+#define DEHLBAZIN_USED_UP 17                     /* commit stopped with its allowance used up */
+#define DEHLBAZIN_BAD_NAME 18                    /* the bytes are no name */
+#define DEHLBAZIN_NAMES_FULL 19                  /* a new name, and 256 are held */
+#define DEHLBAZIN_WRONG_LOCK 20                  /* placing a lock that is not free, or lifting one that is not foreign */
+#define DEHLBAZIN_BAD_LOAD 21                    /* a value that cannot be loaded there */
+#define DEHLBAZIN_NOTHING_THERE 22               /* there is no such log line or row */
+
+/* ---- settings: which names get log lines (docs/SPEC.md, due lines) */
+
+#define DEHLBAZIN_SETTING_NEVER 0
+#define DEHLBAZIN_SETTING_NORMAL 1
+#define DEHLBAZIN_SETTING_ALWAYS 2
+
+/* ---- kinds of a value. A loose value may be loaded with all four, a packed one with none or object. Reading a name, and
+ * the targets of a row, give none, object or link. The number beside it is 0 with none and broken, an object's with
+ * object, and a name's with link. */
+
+#define DEHLBAZIN_KIND_NONE 0
+#define DEHLBAZIN_KIND_OBJECT 1
+#define DEHLBAZIN_KIND_LINK 2
+#define DEHLBAZIN_KIND_BROKEN 3
+
+/* ---- packing modes of a transaction */
+
+#define DEHLBAZIN_MODE_DELETIONS 1           /* only deletes change the packed table */
+#define DEHLBAZIN_MODE_UPDATES 2             /* updates to objects are packed too */
+#define DEHLBAZIN_MODE_UPDATES_REMOVE_LOOSE 3 /* and their loose values are removed */
+
+/* ---- what a row says: its kind, what it writes, and what it expects to find */
+
+#define DEHLBAZIN_ROW_UPDATE 1
+#define DEHLBAZIN_ROW_DELETE 2
+
+#define DEHLBAZIN_LOG_AND_REFERENCE 0
+#define DEHLBAZIN_LOG_ONLY 1
+
+#define DEHLBAZIN_EXPECTED_ANY 0
+#define DEHLBAZIN_EXPECTED_MUST_EXIST 1
+#define DEHLBAZIN_EXPECTED_MUST_NOT_EXIST 2
+#define DEHLBAZIN_EXPECTED_MUST_EXIST_AND_MATCH 3
+#define DEHLBAZIN_EXPECTED_EXISTING_MUST_MATCH 4
+
+/* ---- places of the answer record, by the call that fills them when it is done */
+
+#define DEHLBAZIN_ADD_NAME_NUMBER 0
+
+#define DEHLBAZIN_NAME_BYTES_OFFSET 0
+#define DEHLBAZIN_NAME_BYTES_LENGTH 1
+
+#define DEHLBAZIN_ROLLBACK_ROWS 0
+
+#define DEHLBAZIN_READ_NAME_KIND 0
+#define DEHLBAZIN_READ_NAME_NUMBER 1
+
+#define DEHLBAZIN_READ_LINE_PREVIOUS 0
+#define DEHLBAZIN_READ_LINE_NEW 1
+#define DEHLBAZIN_READ_LINE_COMMITTER 2
+#define DEHLBAZIN_READ_LINE_MESSAGE 3
+
+#define DEHLBAZIN_READ_ROW_NAME 0
+#define DEHLBAZIN_READ_ROW_KIND 1
+#define DEHLBAZIN_READ_ROW_LOG 2
+#define DEHLBAZIN_READ_ROW_FORCE 3
+#define DEHLBAZIN_READ_ROW_MESSAGE 4
+#define DEHLBAZIN_READ_ROW_EXPECTED 5
+#define DEHLBAZIN_READ_ROW_EXPECTED_KIND 6
+#define DEHLBAZIN_READ_ROW_EXPECTED_NUMBER 7
+#define DEHLBAZIN_READ_ROW_NEW_KIND 8
+#define DEHLBAZIN_READ_ROW_NEW_NUMBER 9
+#define DEHLBAZIN_READ_ROW_HAS_PARENT 10
+#define DEHLBAZIN_READ_ROW_PARENT 11
+#define DEHLBAZIN_READ_ROW_LEAF_PREVIOUS 12
+
+/* the place that DEHLBAZIN_NOT_REGISTERED fills, whatever the call */
+#define DEHLBAZIN_NOT_REGISTERED_NUMBER 0
+
+/* What stands at place i, 0 to 15, of an answer record. */
+static inline uint64_t dehlbazin_place(const uint8_t *answer, size_t i)
+{
+    uint64_t number = 0;
+    size_t at;
+    for (at = 8 * i; at < 8 * i + 8; at++)
+        number = number << 8 | answer[at];
+    return number;
+}
+
+#ifdef __cplusplus
+extern "C" {
+#endif
+
+/* Below, 'refused' leaves out what every call can return: 1, of the region and of the record. */
+
+/* Makes an empty store with a log setting. Whatever the region held is gone, a prepared transaction too.
+ * setting: DEHLBAZIN_SETTING_..
+ * refused: 2 it is none of the three.
+ * places: none. */
+uint32_t dehlbazin_start(uint8_t *region, size_t region_len, uint64_t setting, uint8_t *answer, size_t answer_len);
+
+/* Registers a name, or finds it: a known name gives the number that it has.
+ * refused: 18 the bytes are no name; 19 it is new, and 256 names are held.
+ * places: 0 the name's number. */
+uint32_t dehlbazin_add_name(uint8_t *region, size_t region_len, const uint8_t *name, size_t name_len, uint8_t *answer,
+                            size_t answer_len);
+
+/* Says where in the region the bytes of a name stand. They stay there until the next start.
+ * refused: 3 no such name (place 0 the number).
+ * places: 0 the offset from the region's first byte; 1 how many bytes. */
+uint32_t dehlbazin_name_bytes(const uint8_t *region, size_t region_len, uint64_t name, uint8_t *answer, size_t answer_len);
+
+/* Sets the loose value of a name, whatever its lock.
+ * kind: DEHLBAZIN_KIND_..; number: an object's with object, a name's with link, else 0.
+ * refused: 15 a transaction is prepared; 3 no such name, or no such name to link to (place 0 the number, the name's
+ * before the link's); 21 object 0, another kind, or a number beside none or broken.
+ * places: none. */
+uint32_t dehlbazin_load_loose(uint8_t *region, size_t region_len, uint64_t name, uint64_t kind, uint64_t number,
+                              uint8_t *answer, size_t answer_len);
+
+/* Sets the packed value of a name, whatever the locks.
+ * kind: DEHLBAZIN_KIND_NONE with number 0, or DEHLBAZIN_KIND_OBJECT with the object's.
+ * refused: 15 a transaction is prepared; 3 no such name (place 0 the number); 21 object 0, another kind, a number beside
+ * none, or an object for a name that is not packable.
+ * places: none. */
+uint32_t dehlbazin_load_packed(uint8_t *region, size_t region_len, uint64_t name, uint64_t kind, uint64_t number,
+                               uint8_t *answer, size_t answer_len);
+
+/* Places a foreign lock on a name: another program holds it.
+ * refused: 3 no such name (place 0 the number); 20 its lock is not free.
+ * places: none. */
+uint32_t dehlbazin_lock_name(uint8_t *region, size_t region_len, uint64_t name, uint8_t *answer, size_t answer_len);
+
+/* Lifts the foreign lock of a name.
+ * refused: 3 no such name (place 0 the number); 20 its lock is not foreign.
+ * places: none. */
+uint32_t dehlbazin_unlock_name(uint8_t *region, size_t region_len, uint64_t name, uint8_t *answer, size_t answer_len);
+
+/* Places a foreign lock on the packed table.
+ * refused: 20 its lock is not free.
+ * places: none. */
+uint32_t dehlbazin_lock_packed(uint8_t *region, size_t region_len, uint8_t *answer, size_t answer_len);
+
+/* Lifts the foreign lock of the packed table.
+ * refused: 20 its lock is not foreign.
+ * places: none. */
+uint32_t dehlbazin_unlock_packed(uint8_t *region, size_t region_len, uint8_t *answer, size_t answer_len);
+
+/* Gives up the prepared transaction and frees its locks; foreign locks stay. Done too where nothing is prepared.
+ * refused: nothing more.
+ * places: 0 how many rows were given up. */
+uint32_t dehlbazin_rollback(uint8_t *region, size_t region_len, uint8_t *answer, size_t answer_len);
+
+/* Reads a name: its loose target, else its packed value, else nothing.
+ * refused: 3 no such name (place 0 the number).
+ * places: 0 the kind, none, object or link; 1 the number beside it. */
+uint32_t dehlbazin_read_name(const uint8_t *region, size_t region_len, uint64_t name, uint8_t *answer, size_t answer_len);
+
+/* Reads a line of a name's log.
+ * place: among the lines of that name, from 0, the oldest first.
+ * refused: 3 no such name (place 0 the number); 22 it has no line there.
+ * places: 0 the object before, 0 where there was none; 1 the object after; 2 the committer; 3 the message. */
+uint32_t dehlbazin_read_line(const uint8_t *region, size_t region_len, uint64_t name, uint64_t place, uint8_t *answer,
+                             size_t answer_len);
+
+/* Reads a row of the prepared transaction.
+ * place: from 0.
+ * refused: 22 there is no row there, or nothing is prepared.
+ * places: 0 name; 1 kind, DEHLBAZIN_ROW_..; 2 log, DEHLBAZIN_LOG_..; 3 force, 0 or 1; 4 message; 5 what is expected,
+ * DEHLBAZIN_EXPECTED_..; 6 and 7 the expected target's kind and number; 8 and 9 the new target's; 10 whether it has a
+ * parent, 0 or 1; 11 the place of the parent's row; 12 leaf-previous, 0 where there is none. */
+uint32_t dehlbazin_read_row(const uint8_t *region, size_t region_len, uint64_t place, uint8_t *answer, size_t answer_len);
+
+#ifdef __cplusplus
+}
+#endif
+
+#endif

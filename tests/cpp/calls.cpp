@@ -1,0 +1,171 @@
+#include "calls.h"
+
+#include "image.h"
+
+#include <algorithm>
+
+Answer answer(uint32_t number, const std::vector<uint64_t> &places)
+{
+    Answer given;
+    given.number = number;
+    std::copy(places.begin(), places.end(), given.places.begin());
+    return given;
+}
+
+std::string describe(const Call &call)
+{
+    static const char *const names[] = {"start", "add_name", "name_bytes", "load_loose", "load_packed", "lock_name",
+                                        "unlock_name", "lock_packed", "unlock_packed", "rollback", "read_name", "read_line",
+                                        "read_row"};
+    std::string text = names[size_t(call.op)];
+    if (call.op == Op::add_name)
+        return text + " '" + (call.bytes.size() <= 80 ? call.bytes : call.bytes.substr(0, 80) + "..") + "'";
+    size_t numbers = 1;
+    if (call.op == Op::load_loose || call.op == Op::load_packed)
+        numbers = 3;
+    else if (call.op == Op::read_line)
+        numbers = 2;
+    else if (call.op == Op::lock_packed || call.op == Op::unlock_packed || call.op == Op::rollback)
+        numbers = 0;
+    const uint64_t all[] = {call.a, call.b, call.c};
+    for (size_t i = 0; i < numbers; i++)
+        text += " " + std::to_string(all[i]);
+    return text;
+}
+
+static Answer start(Store &store, uint64_t setting)
+{
+    if (setting > 2)
+        return answer(2);
+    store = Store{};
+    store.setting = uint8_t(setting);
+    return answer(0);
+}
+
+static Answer add_name(Store &store, const std::string &name)
+{
+    if (!is_name(name))
+        return answer(18);
+    for (size_t n = 0; n < store.entries.size(); n++)
+        if (store.entries[n].name == name)
+            return answer(0, {n});
+    if (store.entries.size() == MOST_NAMES)
+        return answer(19);
+    store.entries.push_back({name, {}, 0, FREE});
+    return answer(0, {store.entries.size() - 1});
+}
+
+static Answer load_loose(Store &store, uint64_t name, uint64_t kind, uint64_t number)
+{
+    if (kind == LINK && number >= store.entries.size())
+        return answer(3, {number});
+    bool fits = kind == LINK || (kind == OBJECT ? number != 0 : (kind == NONE || kind == BROKEN) && number == 0);
+    if (!fits)
+        return answer(21);
+    store.entries[name].loose = {uint8_t(kind), number};
+    return answer(0);
+}
+
+static Answer load_packed(Store &store, uint64_t name, uint64_t kind, uint64_t number)
+{
+    Entry &entry = store.entries[name];
+    bool fits = kind == OBJECT ? number != 0 && is_packable(entry.name) : kind == NONE && number == 0;
+    if (!fits)
+        return answer(21);
+    entry.packed = number;
+    return answer(0);
+}
+
+static Answer turn(uint8_t &lock, uint8_t from, uint8_t to)
+{
+    if (lock != from)
+        return answer(20);
+    lock = to;
+    return answer(0);
+}
+
+static Answer rollback(Store &store)
+{
+    size_t rows = store.rows.size();
+    for (Entry &entry : store.entries)
+        if (entry.lock == OURS)
+            entry.lock = FREE;
+    if (store.packed_lock == OURS)
+        store.packed_lock = FREE;
+    store.mode = 0;
+    store.rows.clear();
+    return answer(0, {rows});
+}
+
+static Answer read_line(const Store &store, uint64_t name, uint64_t place)
+{
+    for (const Line &line : store.lines)
+        if (line.name == name && place-- == 0)
+            return answer(0, {line.before, line.after, line.committer, line.message});
+    return answer(22);
+}
+
+static Answer read_row(const Store &store, uint64_t place)
+{
+    if (place >= store.rows.size())
+        return answer(22);
+    const Row &row = store.rows[place];
+    return answer(0, {row.name, row.kind, row.log_only, row.force, row.message, row.expected, row.expected_target.kind,
+                      row.expected_target.number, row.new_target.kind, row.new_target.number, row.has_parent, row.parent,
+                      row.leaf_previous});
+}
+
+static bool takes_name(Op op)
+{
+    switch (op) {
+    case Op::name_bytes:
+    case Op::load_loose:
+    case Op::load_packed:
+    case Op::lock_name:
+    case Op::unlock_name:
+    case Op::read_name:
+    case Op::read_line:
+        return true;
+    default:
+        return false;
+    }
+}
+
+Answer answer_of(Store &store, const Call &call)
+{
+    if (store.mode != 0 && (call.op == Op::load_loose || call.op == Op::load_packed))
+        return answer(15);
+    if (takes_name(call.op) && call.a >= store.entries.size())
+        return answer(3, {call.a});
+    switch (call.op) {
+    case Op::start:
+        return start(store, call.a);
+    case Op::add_name:
+        return add_name(store, call.bytes);
+    case Op::name_bytes:
+        return answer(0, {name_offset(call.a), store.entries[call.a].name.size()});
+    case Op::load_loose:
+        return load_loose(store, call.a, call.b, call.c);
+    case Op::load_packed:
+        return load_packed(store, call.a, call.b, call.c);
+    case Op::lock_name:
+        return turn(store.entries[call.a].lock, FREE, FOREIGN);
+    case Op::unlock_name:
+        return turn(store.entries[call.a].lock, FOREIGN, FREE);
+    case Op::lock_packed:
+        return turn(store.packed_lock, FREE, FOREIGN);
+    case Op::unlock_packed:
+        return turn(store.packed_lock, FOREIGN, FREE);
+    case Op::rollback:
+        return rollback(store);
+    case Op::read_name: {
+        Value value = reading(store.entries[call.a]);
+        return answer(0, {value.kind, value.number});
+    }
+    case Op::read_line:
+        return read_line(store, call.a, call.b);
+    case Op::read_row:
+        return read_row(store, call.a);
+    }
+    return {};
+}

@@ -1,0 +1,58 @@
+// The 13 calls on a store, from docs/SPEC.md: the number and the places that each gives, and what it does to the store.
+#pragma once
+
+#include "store.h"
+
+#include <array>
+
+enum class Op {
+    start,
+    add_name,
+    name_bytes,
+    load_loose,
+    load_packed,
+    lock_name,
+    unlock_name,
+    lock_packed,
+    unlock_packed,
+    rollback,
+    read_name,
+    read_line,
+    read_row,
+};
+
+// A call: its bytes, if it takes any, or its numbers in order.
+struct Call {
+    Op op;
+    std::string bytes;
+    uint64_t a = 0, b = 0, c = 0;
+};
+
+std::string describe(const Call &call);
+
+namespace call {
+inline Call start(uint64_t setting) { return {Op::start, {}, setting}; }
+inline Call add_name(std::string_view name) { return {Op::add_name, std::string(name)}; }
+inline Call name_bytes(uint64_t name) { return {Op::name_bytes, {}, name}; }
+inline Call load_loose(uint64_t name, uint64_t kind, uint64_t number) { return {Op::load_loose, {}, name, kind, number}; }
+inline Call load_packed(uint64_t name, uint64_t kind, uint64_t number) { return {Op::load_packed, {}, name, kind, number}; }
+inline Call lock_name(uint64_t name) { return {Op::lock_name, {}, name}; }
+inline Call unlock_name(uint64_t name) { return {Op::unlock_name, {}, name}; }
+inline Call lock_packed() { return {Op::lock_packed, {}}; }
+inline Call unlock_packed() { return {Op::unlock_packed, {}}; }
+inline Call rollback() { return {Op::rollback, {}}; }
+inline Call read_name(uint64_t name) { return {Op::read_name, {}, name}; }
+inline Call read_line(uint64_t name, uint64_t place) { return {Op::read_line, {}, name, place}; }
+inline Call read_row(uint64_t place) { return {Op::read_row, {}, place}; }
+} // namespace call
+
+struct Answer {
+    uint32_t number = 0;
+    std::array<uint64_t, 16> places{};
+};
+
+Answer answer(uint32_t number, const std::vector<uint64_t> &places = {});
+inline bool operator==(const Answer &x, const Answer &y) { return x.number == y.number && x.places == y.places; }
+
+// What a call on a good store gives. The store is changed exactly if the number is 0 and the call changes something.
+Answer answer_of(Store &store, const Call &call);

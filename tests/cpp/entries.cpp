@@ -1,0 +1,84 @@
+#include "entries.h"
+
+#include "check.h"
+#include "dehlbazin.h"
+#include "lent.h"
+
+#include <csignal>
+#include <unistd.h>
+
+// What is being done, for the handler of crashes.
+static const char *current_part;
+static thread_local const Call *current;
+static thread_local size_t current_region_len, current_answer_len;
+
+static void crashed(int signal)
+{
+    std::string what = std::string("in the part ") + current_part;
+    if (current)
+        what += ", " + describe(*current) + " with a region of " + std::to_string(current_region_len) + " and a record of " +
+                std::to_string(current_answer_len);
+    failed({__FILE__, __LINE__}, what + ": the program crashed with signal " + std::to_string(signal));
+    closing();
+    _exit(1);
+}
+
+void watch_for_crashes(const char *part)
+{
+    current_part = part;
+    for (int signal : {SIGSEGV, SIGBUS, SIGILL, SIGFPE, SIGABRT})
+        std::signal(signal, crashed);
+}
+
+static uint32_t add_name(const std::string &name, uint8_t *region, size_t region_len, uint8_t *answer, size_t answer_len)
+{
+    if (name.empty())
+        return dehlbazin_add_name(region, region_len, nullptr, 0, answer, answer_len);
+    const Bytes bytes(name.begin(), name.end());
+    Lent lent(bytes);
+    uint32_t number = dehlbazin_add_name(region, region_len, lent.data(), lent.size(), answer, answer_len);
+    return lent.holds(bytes) && lent.is_alone() ? number : ~uint32_t(0); // a name is only read
+}
+
+static uint32_t make(const Call &call, uint8_t *region, size_t region_len, uint8_t *answer, size_t answer_len)
+{
+    switch (call.op) {
+    case Op::start:
+        return dehlbazin_start(region, region_len, call.a, answer, answer_len);
+    case Op::add_name:
+        return add_name(call.bytes, region, region_len, answer, answer_len);
+    case Op::name_bytes:
+        return dehlbazin_name_bytes(region, region_len, call.a, answer, answer_len);
+    case Op::load_loose:
+        return dehlbazin_load_loose(region, region_len, call.a, call.b, call.c, answer, answer_len);
+    case Op::load_packed:
+        return dehlbazin_load_packed(region, region_len, call.a, call.b, call.c, answer, answer_len);
+    case Op::lock_name:
+        return dehlbazin_lock_name(region, region_len, call.a, answer, answer_len);
+    case Op::unlock_name:
+        return dehlbazin_unlock_name(region, region_len, call.a, answer, answer_len);
+    case Op::lock_packed:
+        return dehlbazin_lock_packed(region, region_len, answer, answer_len);
+    case Op::unlock_packed:
+        return dehlbazin_unlock_packed(region, region_len, answer, answer_len);
+    case Op::rollback:
+        return dehlbazin_rollback(region, region_len, answer, answer_len);
+    case Op::read_name:
+        return dehlbazin_read_name(region, region_len, call.a, answer, answer_len);
+    case Op::read_line:
+        return dehlbazin_read_line(region, region_len, call.a, call.b, answer, answer_len);
+    case Op::read_row:
+        return dehlbazin_read_row(region, region_len, call.a, answer, answer_len);
+    }
+    return ~uint32_t(0);
+}
+
+uint32_t run(const Call &call, uint8_t *region, size_t region_len, uint8_t *answer, size_t answer_len)
+{
+    current = &call;
+    current_region_len = region_len;
+    current_answer_len = answer_len;
+    uint32_t number = make(call, region, region_len, answer, answer_len);
+    current = nullptr;
+    return number;
+}

@@ -1,0 +1,39 @@
+// The checks of the foreign interface. An argument N looks at every Nth bit only where all bits are turned over.
+#include "check.h"
+#include "entries.h"
+#include "tests.h"
+
+#include <chrono>
+#include <cstdio>
+#include <cstdlib>
+#include <functional>
+
+static void part(const char *name, const std::function<void()> &test)
+{
+    watch_for_crashes(name);
+    auto begin = std::chrono::steady_clock::now();
+    test();
+    std::chrono::duration<double> seconds = std::chrono::steady_clock::now() - begin;
+    std::printf("%s: %.1f s\n", name, seconds.count());
+}
+
+int main(int count, char **words)
+{
+    std::setvbuf(stdout, nullptr, _IOLBF, 0);
+    unsigned long every = count > 1 ? std::strtoul(words[1], nullptr, 10) : 1;
+    if (count > 2 || every == 0) {
+        std::fprintf(stderr, "usage: %s [N], to turn over every Nth bit only\n", words[0]);
+        return 2;
+    }
+    part("header", test_header);
+    part("sizes", test_sizes);
+    part("names", test_names);
+    part("values", test_values);
+    part("locks", test_locks);
+    part("log", test_log);
+    part("prepared", test_prepared);
+    part("rules", test_rules);
+    part("random", test_random);
+    part("flips", [=] { test_flips(every); });
+    return closing() ? 0 : 1;
+}

@@ -1,0 +1,113 @@
+#include "samples.h"
+
+std::vector<uint64_t> too_large(uint64_t k)
+{
+    return {256 + k,
+            65536 + k,
+            (uint64_t(1) << 32) + k,
+            (uint64_t(1) << 32) + 65536 + k,
+            (uint64_t(1) << 63) + k,
+            ~uint64_t(0) - 65535 + k,
+            ~uint64_t(0)};
+}
+
+Store busy()
+{
+    Store s;
+    s.setting = 1;
+    s.entries = {
+        {"HEAD", link(1), 0, FREE},
+        {"refs/heads/aisle", object(7), 5, FREE},
+        {"refs/tags/spring", {}, 0x0102030405060708, FOREIGN},
+        {"refs/bisect/bad", {BROKEN, 0}, 0, FREE},
+        {"refs/heads/b./c", {}, 0, FOREIGN},
+    };
+    s.packed_lock = FOREIGN;
+    s.lines = {
+        {0, 0, 5, 1, 3},
+        {1, 0, 5, 1, 3},
+        {0, 5, 7, 65535, 0},
+        {1, 5, 7, 2, 65535},
+        {3, ~uint64_t(0), 0x1112131415161718, 0x0102, 0x0304},
+        {0, 7, ~uint64_t(0), 9, 9},
+    };
+    return s;
+}
+
+Row update(uint16_t name, const Value &target)
+{
+    Row row;
+    row.name = name;
+    row.kind = UPDATE;
+    row.new_target = target;
+    return row;
+}
+
+Row deletion(uint16_t name)
+{
+    Row row;
+    row.name = name;
+    row.kind = DELETE;
+    return row;
+}
+
+Row found(Row row, const Value &target)
+{
+    row.expected = MUST_EXIST_AND_MATCH;
+    row.expected_target = target;
+    return row;
+}
+
+Store prepared()
+{
+    Store s;
+    s.setting = 1;
+    s.mode = 1;
+    s.entries = {
+        {"HEAD", link(1), 0, FREE},
+        {"refs/heads/aisle", object(7), 0, FREE},
+        {"refs/tags/spring", {}, 9, FREE},
+        {"refs/heads/old", {BROKEN, 0}, 0, FREE},
+        {"refs/heads/apart", {}, 0, FOREIGN},
+        {"refs/heads/untouched", object(4), 0, FREE},
+    };
+    Row head = found(update(0, object(8)), link(1));
+    head.log_only = 1;
+    head.force = 1;
+    head.message = 0x0203;
+    head.leaf_previous = 7;
+    Row aisle = found(update(1, object(8)), object(7));
+    aisle.force = 1;
+    aisle.message = 0x0203;
+    aisle.has_parent = 1;
+    aisle.parent = 0;
+    Row spring = found(update(2, object(9)), object(9)); // nothing changes: the lock is dropped, and another took it
+    Row old = deletion(3);
+    old.expected = EXISTING_MUST_MATCH;
+    old.expected_target = object(0x0102030405060708);
+    s.rows = {head, aisle, spring, old};
+    s.entries[2].lock = FOREIGN;
+    s.lines = {{1, 0, 7, 1, 0}, {3, 0, 4, 2, 1}};
+    take_locks(s);
+    return s;
+}
+
+Store prepared_in(uint8_t mode)
+{
+    Store s;
+    s.setting = 2;
+    s.mode = mode;
+    s.entries = {
+        {"refs/heads/same", object(3), 0, FREE},
+        {"refs/heads/link", object(3), 0, FREE},
+        {"refs/heads/gone", object(3), 0, FREE},
+        {"refs/heads/logged", object(3), 0, FREE},
+    };
+    Row gone = found(deletion(2), object(3));
+    gone.log_only = 1;
+    Row logged = found(update(3, object(3)), object(3));
+    logged.log_only = 1;
+    s.rows = {found(update(0, object(3)), object(3)), found(update(1, link(0)), object(3)), gone, logged};
+    take_locks(s);
+    return s;
+}

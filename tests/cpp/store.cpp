@@ -1,0 +1,235 @@
+#include "store.h"
+
+#include <algorithm>
+
+// ---- names
+
+static bool begins(std::string_view text, std::string_view part) { return text.substr(0, part.size()) == part; }
+
+static bool ends(std::string_view text, std::string_view part)
+{
+    return text.size() >= part.size() && text.substr(text.size() - part.size()) == part;
+}
+
+static bool is_capital(char c) { return c >= 'A' && c <= 'Z'; }
+
+static bool is_component(std::string_view part)
+{
+    for (char c : part)
+        if (!is_capital(c) && !(c >= 'a' && c <= 'z') && !(c >= '0' && c <= '9') && c != '-' && c != '_' && c != '.')
+            return false;
+    return !part.empty() && part[0] != '.' && !ends(part, ".lock");
+}
+
+static bool is_special(std::string_view name)
+{
+    for (char c : name)
+        if (!is_capital(c) && c != '_')
+            return false;
+    return !name.empty() && is_capital(name[0]);
+}
+
+static bool is_ref(std::string_view name)
+{
+    if (!begins(name, "refs/") || name.find("..") != name.npos || ends(name, "."))
+        return false;
+    for (size_t at = 5;;) {
+        size_t slash = std::min(name.find('/', at), name.size());
+        if (!is_component(name.substr(at, slash - at)))
+            return false;
+        if (slash == name.size())
+            return true;
+        at = slash + 1;
+    }
+}
+
+bool is_name(std::string_view name) { return name.size() <= LONGEST_NAME && (is_special(name) || is_ref(name)); }
+
+bool is_packable(std::string_view name)
+{
+    return begins(name, "refs/") && !begins(name, "refs/bisect/") && !begins(name, "refs/worktree/") &&
+           !begins(name, "refs/rewritten/");
+}
+
+static bool logs_by_itself(uint8_t setting, std::string_view name)
+{
+    if (setting == 1)
+        return name == "HEAD" || begins(name, "refs/heads/") || begins(name, "refs/remotes/") || begins(name, "refs/notes/");
+    return setting == 2 && (name == "HEAD" || begins(name, "refs/"));
+}
+
+// ---- values
+
+Value reading(const Entry &entry)
+{
+    if (entry.loose.kind == OBJECT || entry.loose.kind == LINK)
+        return entry.loose;
+    return entry.packed != 0 ? object(entry.packed) : Value{};
+}
+
+static bool is_good_target(const Store &store, const Value &value)
+{
+    return value.kind == OBJECT ? value.number != 0 : value.kind == LINK && value.number < store.entries.size();
+}
+
+static bool is_nothing(const Value &value) { return value == Value{}; }
+
+static bool is_good_entry(const Store &store, const Entry &entry)
+{
+    bool loose = is_nothing(entry.loose) || entry.loose == Value{BROKEN, 0} || is_good_target(store, entry.loose);
+    bool packed = entry.packed == 0 || is_packable(entry.name);
+    return is_name(entry.name) && loose && packed && entry.lock <= OURS;
+}
+
+static bool is_good_line(const Store &store, const Line &line)
+{
+    return line.name < store.entries.size() && line.after != 0 && line.committer != 0;
+}
+
+// ---- rows
+
+static bool is_registered(const Store &store, const Row &row) { return row.name < store.entries.size(); }
+
+static std::string_view name_of(const Store &store, const Row &row)
+{
+    return is_registered(store, row) ? std::string_view(store.entries[row.name].name) : std::string_view();
+}
+
+// What was there when the row was prepared.
+static Value existing(const Row &row) { return row.expected == MUST_EXIST_AND_MATCH ? row.expected_target : Value{}; }
+
+bool keeps_lock(const Store &store, const Row &row)
+{
+    bool direct = store.mode == 3 && row.new_target.kind == OBJECT && is_packable(name_of(store, row));
+    return row.kind == DELETE || direct || row.new_target.kind == LINK || row.new_target != existing(row);
+}
+
+bool opens_packed(const Store &store)
+{
+    bool counting = false, counting_update = false;
+    for (const Row &row : store.rows)
+        if (!row.log_only && is_packable(name_of(store, row))) {
+            counting = true;
+            counting_update |= row.kind == UPDATE && row.new_target.kind == OBJECT;
+        }
+    bool packed = std::any_of(store.entries.begin(), store.entries.end(), [](const Entry &e) { return e.packed != 0; });
+    return counting && ((store.mode >= 2 && counting_update) || packed);
+}
+
+static bool is_logged(const Store &store, const Row &row)
+{
+    bool lines = std::any_of(store.lines.begin(), store.lines.end(), [&](const Line &l) { return l.name == row.name; });
+    return store.setting != 0 && (lines || row.force || logs_by_itself(store.setting, name_of(store, row)));
+}
+
+static bool has_move(const Row &row)
+{
+    if (row.kind == DELETE)
+        return false;
+    if (row.new_target.kind == LINK)
+        return row.expected == EXISTING_MUST_MATCH && row.expected_target.kind == OBJECT;
+    Value was = existing(row);
+    return (was.kind == OBJECT ? was.number : row.leaf_previous) != row.new_target.number;
+}
+
+size_t due_lines(const Store &store)
+{
+    return std::count_if(store.rows.begin(), store.rows.end(),
+                         [&](const Row &row) { return has_move(row) && is_logged(store, row); });
+}
+
+// The fields of one row, without the parent.
+static bool is_good_row(const Store &store, const Row &row)
+{
+    bool flags = (row.kind == UPDATE || row.kind == DELETE) && row.log_only <= 1 && row.force <= 1 && row.has_parent <= 1;
+    bool matches = row.expected == MUST_EXIST_AND_MATCH || row.expected == EXISTING_MUST_MATCH;
+    bool expected = row.expected <= EXISTING_MUST_MATCH &&
+                    (matches ? is_good_target(store, row.expected_target) : is_nothing(row.expected_target));
+    bool change = row.kind == UPDATE ? is_good_target(store, row.new_target)
+                                     : is_nothing(row.new_target) && row.force == 0 && row.message == 0;
+    return is_registered(store, row) && flags && expected && change && (row.has_parent || row.parent == 0);
+}
+
+static bool has_good_ancestors(const Store &store, size_t place)
+{
+    size_t ancestors = 0;
+    for (size_t at = place; store.rows[at].has_parent; at = store.rows[at].parent) {
+        if (store.rows[at].parent >= at || ancestors == MOST_ANCESTORS)
+            return false;
+        ancestors++;
+    }
+    return true;
+}
+
+// ---- the rules
+
+static bool are_apart(std::vector<std::string_view> names)
+{
+    std::sort(names.begin(), names.end());
+    return std::adjacent_find(names.begin(), names.end()) == names.end();
+}
+
+static bool are_good_names(const Store &store)
+{
+    std::vector<std::string_view> names;
+    for (const Entry &entry : store.entries) {
+        if (!is_good_entry(store, entry))
+            return false;
+        names.push_back(entry.name);
+    }
+    return names.size() <= MOST_NAMES && are_apart(names);
+}
+
+static bool are_good_rows(const Store &store)
+{
+    std::vector<bool> seen(store.entries.size());
+    for (size_t i = 0; i < store.rows.size(); i++) {
+        const Row &row = store.rows[i];
+        if (!is_good_row(store, row) || !has_good_ancestors(store, i) || seen[row.name])
+            return false;
+        seen[row.name] = true;
+    }
+    return store.mode <= 3 && store.rows.size() <= (store.mode == 0 ? 0 : MOST_ROWS);
+}
+
+static std::vector<bool> kept_locks(const Store &store)
+{
+    std::vector<bool> kept(store.entries.size());
+    for (const Row &row : store.rows)
+        if (is_registered(store, row) && keeps_lock(store, row))
+            kept[row.name] = true;
+    return kept;
+}
+
+static bool are_good_locks(const Store &store)
+{
+    std::vector<bool> kept = kept_locks(store);
+    for (size_t n = 0; n < store.entries.size(); n++)
+        if ((store.entries[n].lock == OURS) != kept[n])
+            return false;
+    return store.packed_lock <= OURS && (store.packed_lock == OURS) == opens_packed(store);
+}
+
+bool is_good(const Store &store)
+{
+    if (store.setting > 2 || !are_good_names(store) || !are_good_rows(store) || !are_good_locks(store))
+        return false;
+    for (const Line &line : store.lines)
+        if (!is_good_line(store, line))
+            return false;
+    return store.lines.size() + due_lines(store) <= MOST_LINES;
+}
+
+void take_locks(Store &store)
+{
+    std::vector<bool> kept = kept_locks(store);
+    for (size_t n = 0; n < store.entries.size(); n++)
+        if (kept[n])
+            store.entries[n].lock = OURS;
+        else if (store.entries[n].lock == OURS)
+            store.entries[n].lock = FREE;
+    if (opens_packed(store))
+        store.packed_lock = OURS;
+    else if (store.packed_lock == OURS)
+        store.packed_lock = FREE;
+}

@@ -1,0 +1,87 @@
+// The store, from docs/SPEC.md: what it holds, and the rules that a good one obeys. Nothing here knows of the region.
+#pragma once
+
+#include <cstddef>
+#include <cstdint>
+#include <string>
+#include <string_view>
+#include <vector>
+
+constexpr size_t MOST_NAMES = 256;
+constexpr size_t LONGEST_NAME = 64;
+constexpr size_t MOST_LINES = 1024;
+constexpr size_t MOST_ROWS = 160;
+constexpr size_t MOST_ANCESTORS = 4;
+
+enum : uint8_t { NONE = 0, OBJECT = 1, LINK = 2, BROKEN = 3 };
+enum : uint8_t { FREE = 0, FOREIGN = 1, OURS = 2 };
+enum : uint8_t { UPDATE = 1, DELETE = 2 };
+enum : uint8_t { ANY = 0, MUST_EXIST = 1, MUST_NOT_EXIST = 2, MUST_EXIST_AND_MATCH = 3, EXISTING_MUST_MATCH = 4 };
+
+// A loose value, or a target that may be missing. Only a loose value is broken.
+struct Value {
+    uint8_t kind = NONE;
+    uint64_t number = 0;
+};
+
+inline bool operator==(const Value &a, const Value &b) { return a.kind == b.kind && a.number == b.number; }
+inline bool operator!=(const Value &a, const Value &b) { return !(a == b); }
+
+inline Value object(uint64_t number) { return {OBJECT, number}; }
+inline Value link(uint64_t name) { return {LINK, name}; }
+
+struct Entry {
+    std::string name;
+    Value loose;
+    uint64_t packed = 0;
+    uint8_t lock = FREE;
+};
+
+struct Line {
+    uint16_t name = 0;
+    uint64_t before = 0;
+    uint64_t after = 0;
+    uint16_t committer = 0;
+    uint16_t message = 0;
+};
+
+struct Row {
+    uint16_t name = 0;
+    uint8_t kind = UPDATE;
+    uint8_t log_only = 0;
+    uint8_t force = 0;
+    uint16_t message = 0;
+    uint8_t expected = ANY;
+    Value expected_target;
+    Value new_target;
+    uint8_t has_parent = 0;
+    uint8_t parent = 0;
+    uint64_t leaf_previous = 0;
+};
+
+// Numbers stand as they are in the region, good ones and bad ones, so that a store that breaks a rule can be written down.
+struct Store {
+    uint8_t setting = 0;
+    std::vector<Entry> entries;
+    uint8_t packed_lock = FREE;
+    std::vector<Line> lines;
+    uint8_t mode = 0; // 0 where nothing is prepared
+    std::vector<Row> rows;
+};
+
+bool is_name(std::string_view name);
+bool is_packable(std::string_view name);
+
+// What a name reads.
+Value reading(const Entry &entry);
+
+// R2: the rows open the packed table. R4: the row keeps its lock. How many lines the rows are due.
+bool opens_packed(const Store &store);
+bool keeps_lock(const Store &store, const Row &row);
+size_t due_lines(const Store &store);
+
+// The store obeys every rule.
+bool is_good(const Store &store);
+
+// Makes ours the locks that the rows keep, and frees the others that were ours.
+void take_locks(Store &store);

@@ -1,0 +1,90 @@
+// The header: its constants are those of docs/SPEC.md and docs/LAYOUT.md, its reader of places is right, and it serves C.
+#include "check.h"
+#include "dehlbazin.h"
+#include "image.h"
+#include "lent.h"
+#include "samples.h"
+#include "tests.h"
+
+extern "C" uint64_t first_name_from_c(uint8_t *region, size_t region_len, uint32_t *number);
+
+static_assert(DEHLBAZIN_REGION_SIZE == REGION && DEHLBAZIN_ANSWER_SIZE == 16 * 8);
+
+static_assert(DEHLBAZIN_DONE == 0 && DEHLBAZIN_BAD_REGION == 1 && DEHLBAZIN_MALFORMED == 2);
+static_assert(DEHLBAZIN_NOT_REGISTERED == 3 && DEHLBAZIN_REFERENCE_CYCLE == 4 && DEHLBAZIN_TOO_MANY_ROWS == 5);
+static_assert(DEHLBAZIN_MULTIPLE_EDITS == 6 && DEHLBAZIN_PACKED_TRANSACTION_ACQUIRE == 7 && DEHLBAZIN_LOCK_ACQUIRE == 8);
+static_assert(DEHLBAZIN_DELETE_REFERENCE_MUST_EXIST == 9 && DEHLBAZIN_MUST_NOT_EXIST == 10 && DEHLBAZIN_MUST_EXIST == 11);
+static_assert(DEHLBAZIN_REFERENCE_OUT_OF_DATE == 12 && DEHLBAZIN_DELETE_MUST_NOT_EXIST == 13 && DEHLBAZIN_LOG_FULL == 14);
+static_assert(DEHLBAZIN_WRONG_STATE == 15 && DEHLBAZIN_NO_COMMITTER == 16 && DEHLBAZIN_USED_UP == 17);
+static_assert(DEHLBAZIN_BAD_NAME == 18 && DEHLBAZIN_NAMES_FULL == 19 && DEHLBAZIN_WRONG_LOCK == 20);
+static_assert(DEHLBAZIN_BAD_LOAD == 21 && DEHLBAZIN_NOTHING_THERE == 22);
+
+static_assert(DEHLBAZIN_SETTING_NEVER == 0 && DEHLBAZIN_SETTING_NORMAL == 1 && DEHLBAZIN_SETTING_ALWAYS == 2);
+static_assert(DEHLBAZIN_KIND_NONE == NONE && DEHLBAZIN_KIND_OBJECT == OBJECT);
+static_assert(DEHLBAZIN_KIND_LINK == LINK && DEHLBAZIN_KIND_BROKEN == BROKEN);
+static_assert(DEHLBAZIN_MODE_DELETIONS == 1 && DEHLBAZIN_MODE_UPDATES == 2 && DEHLBAZIN_MODE_UPDATES_REMOVE_LOOSE == 3);
+static_assert(DEHLBAZIN_ROW_UPDATE == UPDATE && DEHLBAZIN_ROW_DELETE == DELETE);
+static_assert(DEHLBAZIN_LOG_AND_REFERENCE == 0 && DEHLBAZIN_LOG_ONLY == 1);
+static_assert(DEHLBAZIN_EXPECTED_ANY == ANY && DEHLBAZIN_EXPECTED_MUST_EXIST == MUST_EXIST);
+static_assert(DEHLBAZIN_EXPECTED_MUST_NOT_EXIST == MUST_NOT_EXIST);
+static_assert(DEHLBAZIN_EXPECTED_MUST_EXIST_AND_MATCH == MUST_EXIST_AND_MATCH);
+static_assert(DEHLBAZIN_EXPECTED_EXISTING_MUST_MATCH == EXISTING_MUST_MATCH);
+
+// One place of the answer to a call on a store.
+static uint64_t place_of(uint32_t number, const Bytes &answer, size_t place)
+{
+    return number == DEHLBAZIN_DONE ? dehlbazin_place(answer.data(), place) : ~uint64_t(0);
+}
+
+static void test_places()
+{
+    Bytes region = encode(prepared()), answer(DEHLBAZIN_ANSWER_SIZE);
+    uint32_t number = dehlbazin_name_bytes(region.data(), region.size(), 1, answer.data(), answer.size());
+    check(place_of(number, answer, DEHLBAZIN_NAME_BYTES_OFFSET) == name_offset(1), "the offset of a name");
+    check(place_of(number, answer, DEHLBAZIN_NAME_BYTES_LENGTH) == 16, "the length of a name");
+
+    number = dehlbazin_read_name(region.data(), region.size(), 0, answer.data(), answer.size());
+    check(place_of(number, answer, DEHLBAZIN_READ_NAME_KIND) == DEHLBAZIN_KIND_LINK, "the kind that a name reads");
+    check(place_of(number, answer, DEHLBAZIN_READ_NAME_NUMBER) == 1, "the number that a name reads");
+
+    number = dehlbazin_read_line(region.data(), region.size(), 3, 0, answer.data(), answer.size());
+    check(place_of(number, answer, DEHLBAZIN_READ_LINE_PREVIOUS) == 0, "the object before");
+    check(place_of(number, answer, DEHLBAZIN_READ_LINE_NEW) == 4, "the object after");
+    check(place_of(number, answer, DEHLBAZIN_READ_LINE_COMMITTER) == 2, "the committer");
+    check(place_of(number, answer, DEHLBAZIN_READ_LINE_MESSAGE) == 1, "the message of a line");
+
+    number = dehlbazin_read_row(region.data(), region.size(), 1, answer.data(), answer.size());
+    check(place_of(number, answer, DEHLBAZIN_READ_ROW_NAME) == 1, "the name of a row");
+    check(place_of(number, answer, DEHLBAZIN_READ_ROW_KIND) == DEHLBAZIN_ROW_UPDATE, "the kind of a row");
+    check(place_of(number, answer, DEHLBAZIN_READ_ROW_LOG) == DEHLBAZIN_LOG_AND_REFERENCE, "the log of a row");
+    check(place_of(number, answer, DEHLBAZIN_READ_ROW_FORCE) == 1, "the force of a row");
+    check(place_of(number, answer, DEHLBAZIN_READ_ROW_MESSAGE) == 0x0203, "the message of a row");
+    check(place_of(number, answer, DEHLBAZIN_READ_ROW_EXPECTED) == DEHLBAZIN_EXPECTED_MUST_EXIST_AND_MATCH, "expected");
+    check(place_of(number, answer, DEHLBAZIN_READ_ROW_EXPECTED_KIND) == DEHLBAZIN_KIND_OBJECT, "the expected kind");
+    check(place_of(number, answer, DEHLBAZIN_READ_ROW_EXPECTED_NUMBER) == 7, "the expected number");
+    check(place_of(number, answer, DEHLBAZIN_READ_ROW_NEW_KIND) == DEHLBAZIN_KIND_OBJECT, "the new kind");
+    check(place_of(number, answer, DEHLBAZIN_READ_ROW_NEW_NUMBER) == 8, "the new number");
+    check(place_of(number, answer, DEHLBAZIN_READ_ROW_HAS_PARENT) == 1, "has a parent");
+    check(place_of(number, answer, DEHLBAZIN_READ_ROW_PARENT) == 0, "the parent's place");
+    check(place_of(number, answer, DEHLBAZIN_READ_ROW_LEAF_PREVIOUS) == 0, "no leaf-previous");
+    number = dehlbazin_read_row(region.data(), region.size(), 0, answer.data(), answer.size());
+    check(place_of(number, answer, DEHLBAZIN_READ_ROW_LEAF_PREVIOUS) == 7, "leaf-previous");
+
+    number = dehlbazin_rollback(region.data(), region.size(), answer.data(), answer.size());
+    check(place_of(number, answer, DEHLBAZIN_ROLLBACK_ROWS) == 4, "the rows given up");
+}
+
+void test_header()
+{
+    Bytes record(DEHLBAZIN_ANSWER_SIZE);
+    for (size_t i = 0; i < record.size(); i++)
+        record[i] = uint8_t(i + 128);
+    check(dehlbazin_place(record.data(), 0) == 0x8081828384858687, "place 0");
+    check(dehlbazin_place(record.data(), 15) == 0xF8F9FAFBFCFDFEFF, "place 15");
+    test_places();
+
+    Lent region(encode(Store{}));
+    uint32_t number = 99;
+    check(first_name_from_c(region.data(), region.size(), &number) == 0 && number == DEHLBAZIN_DONE, "a call from C");
+    check(first_name_from_c(region.data(), 5, &number) == 0 && number == DEHLBAZIN_BAD_REGION, "a refused call from C");
+}

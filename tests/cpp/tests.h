@@ -1,0 +1,15 @@
+// The parts of the program, one to a file.
+#pragma once
+
+#include <cstddef>
+
+void test_header();
+void test_sizes();
+void test_names();
+void test_values();
+void test_locks();
+void test_log();
+void test_prepared();
+void test_rules();
+void test_random();
+void test_flips(size_t every); // turns over every so manyth bit

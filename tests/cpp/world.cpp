@@ -1,0 +1,90 @@
+#include "world.h"
+
+#include "entries.h"
+
+static const uint8_t OLD = 0xEE; // what stands in a record before a call
+
+static Bytes record_of(const Answer &answer)
+{
+    Bytes bytes;
+    for (uint64_t place : answer.places)
+        for (int shift = 56; shift >= 0; shift -= 8)
+            bytes.push_back(uint8_t(place >> shift));
+    return bytes;
+}
+
+static std::string difference(const Lent &found, const Bytes &wanted)
+{
+    for (size_t i = 0; i < wanted.size(); i++)
+        if (found.data()[i] != wanted[i])
+            return "byte " + std::to_string(i) + " is " + std::to_string(found.data()[i]) + " instead of " +
+                   std::to_string(wanted[i]);
+    return "no difference";
+}
+
+static void check_bytes(const Lent &found, const Bytes &wanted, const std::string &what, const At &at)
+{
+    if (found.holds(wanted))
+        passed();
+    else
+        failed(at, what + ": " + difference(found, wanted));
+}
+
+static void check_region(Lent &found, const Bytes &wanted, const std::string &what, const At &at)
+{
+    check_bytes(found, wanted, what, at);
+    found.set(wanted); // so that one failure makes no others
+}
+
+World::World(const Store &store) : own(store), lent(encode(store)), record(ANSWER, OLD) {}
+
+Answer World::agrees(const Call &call, At at)
+{
+    Answer wanted = answer_of(own, call);
+    record.fill(OLD);
+    uint32_t number = run(call, lent.data(), lent.size(), record.data(), record.size());
+    if (number == wanted.number)
+        passed();
+    else
+        failed(at, describe(call) + ": number " + std::to_string(number) + " instead of " + std::to_string(wanted.number));
+    check_bytes(record, record_of(wanted), describe(call) + ": record", at);
+    check_region(lent, encode(own), describe(call) + ": region", at);
+    if (lent.is_alone() && record.is_alone())
+        passed();
+    else
+        failed(at, describe(call) + ": bytes before the region or the record are written");
+    return wanted;
+}
+
+void World::gives(const Call &call, uint32_t number, const std::vector<uint64_t> &places, At at)
+{
+    const Bytes before = encode(own);
+    Answer stated = answer(number, places);
+    check(agrees(call, at) == stated, describe(call) + ": our own store does not give what the check states", at);
+    check_bytes(record, record_of(stated), describe(call) + ": record", at);
+    if (number != 0)
+        check(encode(own) == before, describe(call) + ": our own store is changed by a refusal", at);
+}
+
+void taken_for(bool good, const Bytes &region, const std::string &what, At at)
+{
+    std::optional<Store> own = decode(region);
+    check(own.has_value() == good, what + ": our own decoder takes it the other way", at);
+
+    Lent lent(region), record(ANSWER, OLD);
+    uint32_t number = run(call::read_row(1000000), lent.data(), lent.size(), record.data(), record.size());
+    check(number == (good ? 22 : 1), what + ": the archive gives " + std::to_string(number), at);
+    check_bytes(record, Bytes(ANSWER), what + ": record", at);
+    check_region(lent, region, what + ": region", at);
+
+    number = run(call::rollback(), lent.data(), lent.size(), record.data(), record.size());
+    check(number == (good ? 0 : 1), what + ": rollback gives " + std::to_string(number), at);
+    if (own) {
+        check(encode(*own) == region, what + ": our own encoder writes other bytes", at);
+        check_bytes(record, record_of(answer_of(*own, call::rollback())), what + ": rollback's record", at);
+        check_bytes(lent, encode(*own), what + ": rollback's region", at);
+    } else {
+        check_bytes(record, Bytes(ANSWER), what + ": rollback's record", at);
+        check_bytes(lent, region, what + ": rollback's region", at);
+    }
+}

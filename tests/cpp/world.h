@@ -1,0 +1,33 @@
+// A region of the archive and a store of our own, side by side: each call is made on both, and all is compared.
+#pragma once
+
+#include "calls.h"
+#include "check.h"
+#include "lent.h"
+
+constexpr size_t ANSWER = 128;
+
+class World {
+public:
+    explicit World(const Store &store);
+    explicit World(uint8_t setting = 1) : World(Store{setting, {}, FREE, {}, 0, {}}) {}
+
+    // The call gives this number and these places, the others 0. A done call leaves the region of our own store after the
+    // same call; a refused one leaves every byte.
+    void gives(const Call &call, uint32_t number, const std::vector<uint64_t> &places = {}, AT_CALLER);
+
+    // The call does what our own store does.
+    Answer agrees(const Call &call, AT_CALLER);
+
+    const Store &store() const { return own; }
+    const Lent &region() const { return lent; }
+
+private:
+    Store own;
+    Lent lent, record;
+};
+
+// What a region is taken for: a call that only reads, and always refuses, gives 22 if it is good and 1 if it is not.
+// Checks that the archive and our own decoder agree that it is good or not, that nothing is written, that what is good is
+// written as the same bytes again, and that rollback then does the same on both.
+void taken_for(bool good, const Bytes &region, const std::string &what, AT_CALLER);
