@@ -1,0 +1,100 @@
+use borrow.Author.Needs.{needs}
+use Rattle.answers.proofs.places_of.Statement.{statement}
+use Rattle.answers.proofs.places_of.Tie as tie
+
+enum-told : tie.Need-enum-told
+enum-told c = search needs
+
+one-place-requires : tie.Need-one-place-requires
+one-place-requires c κs = search needs
+
+enum-known-verdict : tie.Need-enum-known-verdict
+enum-known-verdict c = search needs
+
+one-place-requires-2 : tie.Need-one-place-requires-2
+one-place-requires-2 c κs = search needs
+
+enum-known-verdict-2 : tie.Need-enum-known-verdict-2
+enum-known-verdict-2 c = search needs
+
+two-places-requires : tie.Need-two-places-requires
+two-places-requires c κs = search needs
+
+enum-known-verdict-3 : tie.Need-enum-known-verdict-3
+enum-known-verdict-3 c = search needs
+
+byte-requires : tie.Need-byte-requires
+byte-requires c κs = search needs
+
+number-requires : tie.Need-number-requires
+number-requires c κs = search needs
+
+two-places-requires-2 : tie.Need-two-places-requires-2
+two-places-requires-2 c κs = search needs
+
+enum-known-verdict-4 : tie.Need-enum-known-verdict-4
+enum-known-verdict-4 c = search needs
+
+line-places-requires : tie.Need-line-places-requires
+line-places-requires c κs = search needs
+
+enum-known-verdict-5 : tie.Need-enum-known-verdict-5
+enum-known-verdict-5 c = search needs
+
+row-places-requires : tie.Need-row-places-requires
+row-places-requires c κs = search needs
+
+enum-known-verdict-6 : tie.Need-enum-known-verdict-6
+enum-known-verdict-6 c = search needs
+
+refusal-places-requires : tie.Need-refusal-places-requires
+refusal-places-requires c κs = search needs
+
+returns : tie.Need-returns
+returns c = simp (c .before .enum-told .given .1) (c .one-place .ensures)
+
+returns-2 : tie.Need-returns-2
+returns-2 c = simp (c .before .before .verdict .given .1) (c .one-place2 .ensures)
+
+returns-3 : tie.Need-returns-3
+returns-3 c = simp (c .before .before .verdict2 .given .1) (c .two-places .ensures)
+
+returns-4 : tie.Need-returns-4
+returns-4 c = simp (c .before .before .before .before .verdict3 .given .1, ← c .before .before .byte .ensures, ← c .before .number .ensures) (c .two-places2 .ensures)
+
+returns-5 : tie.Need-returns-5
+returns-5 c = simp (c .before .before .verdict4 .given .1) (c .line-places .ensures)
+
+returns-6 : tie.Need-returns-6
+returns-6 c = simp (c .before .before .verdict5 .given .1) (c .row-places .ensures)
+
+returns-7 : tie.Need-returns-7
+returns-7 c = simp (c .before .before .verdict6 .given .1) (c .refusal-places .ensures)
+
+pub places-of-spec : {M : Type 1} → statement M
+places-of-spec =
+    tie.close
+    (tie.spec
+    enum-told
+    one-place-requires
+    enum-known-verdict
+    one-place-requires-2
+    enum-known-verdict-2
+    two-places-requires
+    enum-known-verdict-3
+    byte-requires
+    number-requires
+    two-places-requires-2
+    enum-known-verdict-4
+    line-places-requires
+    enum-known-verdict-5
+    row-places-requires
+    enum-known-verdict-6
+    refusal-places-requires
+    returns
+    returns-2
+    returns-3
+    returns-4
+    returns-5
+    returns-6
+    returns-7)

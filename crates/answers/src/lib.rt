@@ -1,0 +1,327 @@
+// What a call answers, and the record that is filled with it.
+ghost use mathlib.Core.Path.{_≡_};
+ghost use mathlib.Core.List.{[], _∷_, _++_};
+ghost use lib.ListN.{length};
+ghost use Rattle.transaction.specs.Change.{logOf, forceOf, messageOf, expectedOf};
+ghost use Rattle.transaction.specs.Fields.{refLogByte, previousByte};
+ghost use Rattle.model.specs.Numbers.{refusalAnswer, optionPlaces, rowPlaces, flag};
+ghost use Rattle.answers.specs.Answers.{recordOf, padded, answerBy, parentFlag, parentPlace};
+use model::Line;
+use model::Refusal;
+use target::NameNumber;
+use target::OptionTarget;
+use transaction::Change;
+use transaction::Edit;
+use transaction::ParentIndex;
+
+// The answer record: 16 places of 8 bytes.
+pub struct Answer {}
+
+impl Answer {
+    pub const SIZE: usize = 128;
+}
+
+// What a call answers.
+pub enum Verdict {
+    Done,
+    Number(u64),
+    Bytes(u64, u64),
+    Value(OptionTarget),
+    Line(Line),
+    Row(Edit),
+    Refused(Refusal),
+}
+
+// ---- the record
+
+fn put_places(answer: &mut [u8], places: [u64; 16])
+    requires { ⌜ length (now answer) ≡ 128 ⌝ }
+    ensures { λ _. ⌜ now (answer .exit) ≡ recordOf places ⌝ }
+{
+    let mut i: usize = 0;
+    while i < 16 {
+        let a = i * 8;
+        let e = a + 8;
+        word::put64(&mut answer[a..e], places[i]);
+        i += 1;
+    }
+}
+
+// ---- places in use, and zeros
+
+// One number, and none.
+fn one_place(x: u64) -> [u64; 16]
+    ensures { λ r. ⌜ r ≡ padded (x ∷ []) ⌝ }
+{
+    let mut out = [0u64; 16];
+    out[0] = x;
+    out
+}
+
+fn two_places(x: u64, y: u64) -> [u64; 16]
+    ensures { λ r. ⌜ r ≡ padded (x ∷ y ∷ []) ⌝ }
+{
+    let mut out = [0u64; 16];
+    out[0] = x;
+    out[1] = y;
+    out
+}
+
+// A name and two targets, of which either may be absent.
+fn name_places(name: NameNumber, first: OptionTarget, second: OptionTarget) -> [u64; 16]
+    ensures { λ r. ⌜ r ≡ padded (name .0 ∷ optionPlaces first ++ optionPlaces second) ⌝ }
+{
+    let mut out = [0u64; 16];
+    out[0] = name.0 as u64;
+    out[1] = first.byte();
+    out[2] = first.number();
+    out[3] = second.byte();
+    out[4] = second.number();
+    out
+}
+
+fn line_places(l: Line) -> [u64; 16]
+    ensures { λ r. ⌜ r ≡ padded (l .previous .0 ∷ l .new .0 ∷ l .committer ∷ l .message ∷ []) ⌝ }
+{
+    let previous = l.previous;
+    let new = l.new;
+    let mut out = [0u64; 16];
+    out[0] = previous.0;
+    out[1] = new.0;
+    out[2] = l.committer as u64;
+    out[3] = l.message as u64;
+    out
+}
+
+// ---- the places of a row
+
+fn log_byte(change: Change) -> u64
+    ensures { λ r. ⌜ r ≡ refLogByte (logOf change) ⌝ }
+{
+    match change {
+        Change::Update {
+            log,
+            expected: _,
+            new: _,
+        } => {
+            let mode = log.mode;
+            mode.byte()
+        }
+        Change::Delete { expected: _, log } => log.byte(),
+    }
+}
+
+fn flag_of(b: bool) -> u64
+    ensures { λ r. ⌜ r ≡ flag b ⌝ }
+{
+    if b { 1 } else { 0 }
+}
+
+fn force_flag(change: Change) -> u64
+    ensures { λ r. ⌜ r ≡ flag (forceOf change) ⌝ }
+{
+    match change {
+        Change::Update {
+            log,
+            expected: _,
+            new: _,
+        } => flag_of(log.force_create_reflog),
+        Change::Delete {
+            expected: _,
+            log: _,
+        } => 0,
+    }
+}
+
+fn message_of(change: Change) -> u64
+    ensures { λ r. ⌜ r ≡ messageOf change ⌝ }
+{
+    match change {
+        Change::Update {
+            log,
+            expected: _,
+            new: _,
+        } => log.message as u64,
+        Change::Delete {
+            expected: _,
+            log: _,
+        } => 0,
+    }
+}
+
+fn expected_byte(change: Change) -> u64
+    ensures { λ r. ⌜ r ≡ previousByte (expectedOf change) ⌝ }
+{
+    match change {
+        Change::Update {
+            log: _,
+            expected,
+            new: _,
+        } => expected.byte(),
+        Change::Delete { expected, log: _ } => expected.byte(),
+    }
+}
+
+fn parent_flag(p: ParentIndex) -> u64
+    ensures { λ r. ⌜ r ≡ parentFlag p ⌝ }
+{
+    match p {
+        ParentIndex::NoParent => 0,
+        ParentIndex::Parent(_) => 1,
+    }
+}
+
+fn parent_place(p: ParentIndex) -> u64
+    ensures { λ r. ⌜ r ≡ parentPlace p ⌝ }
+{
+    match p {
+        ParentIndex::NoParent => 0,
+        ParentIndex::Parent(j) => j as u64,
+    }
+}
+
+fn row_places(row: Edit) -> [u64; 16]
+    ensures { λ r. ⌜ r ≡ padded (rowPlaces row) ⌝ }
+{
+    let update = row.update;
+    let name = update.name;
+    let change = update.change;
+    let parent = row.parent_index;
+    let leaf = row.leaf_referent_previous_oid;
+    let expected = change.previous_value();
+    let new = change.new_value();
+    let kind = change.byte();
+    let log = log_byte(change);
+    let force = force_flag(change);
+    let message = message_of(change);
+    let previous = expected_byte(change);
+    let from_kind = expected.byte();
+    let from = expected.number();
+    let to_kind = new.byte();
+    let to = new.number();
+    let has = parent_flag(parent);
+    let place = parent_place(parent);
+    [
+        name.0 as u64,
+        kind,
+        log,
+        force,
+        message,
+        previous,
+        from_kind,
+        from,
+        to_kind,
+        to,
+        has,
+        place,
+        leaf.0,
+        0,
+        0,
+        0,
+    ]
+}
+
+// ---- refusals
+
+fn refusal_places(x: Refusal) -> [u64; 16]
+    ensures { λ r. ⌜ r ≡ refusalAnswer x .places ⌝ }
+{
+    match x {
+        Refusal::NotRegistered(n) => one_place(n),
+        Refusal::MultipleEdits(n) => one_place(n.0 as u64),
+        Refusal::LockAcquire(n) => one_place(n.0 as u64),
+        Refusal::DeleteReferenceMustExist(n) => one_place(n.0 as u64),
+        Refusal::DeleteMustNotExist(n) => one_place(n.0 as u64),
+        Refusal::MustNotExist(n, actual, new) => {
+            name_places(n, OptionTarget::Present(actual), OptionTarget::Present(new))
+        }
+        Refusal::MustExist(n, expected) => {
+            name_places(n, OptionTarget::Present(expected), OptionTarget::Absent)
+        }
+        Refusal::ReferenceOutOfDate(n, expected, actual) => {
+            name_places(
+                n,
+                OptionTarget::Present(expected),
+                OptionTarget::Present(actual),
+            )
+        }
+        Refusal::BadRegion => one_place(0),
+        Refusal::Malformed => one_place(0),
+        Refusal::ReferenceCycle => one_place(0),
+        Refusal::TooManyRows => one_place(0),
+        Refusal::PackedTransactionAcquire => one_place(0),
+        Refusal::LogFull => one_place(0),
+        Refusal::WrongState => one_place(0),
+        Refusal::BadName => one_place(0),
+        Refusal::NamesFull => one_place(0),
+        Refusal::WrongLock => one_place(0),
+        Refusal::BadLoad => one_place(0),
+        Refusal::NothingThere => one_place(0),
+    }
+}
+
+fn refusal_number(x: Refusal) -> u32
+    ensures { λ r. ⌜ r ≡ refusalAnswer x .number ⌝ }
+{
+    match x {
+        Refusal::BadRegion => 1,
+        Refusal::Malformed => 2,
+        Refusal::NotRegistered(_) => 3,
+        Refusal::ReferenceCycle => 4,
+        Refusal::TooManyRows => 5,
+        Refusal::MultipleEdits(_) => 6,
+        Refusal::PackedTransactionAcquire => 7,
+        Refusal::LockAcquire(_) => 8,
+        Refusal::DeleteReferenceMustExist(_) => 9,
+        Refusal::MustNotExist(_, _, _) => 10,
+        Refusal::MustExist(_, _) => 11,
+        Refusal::ReferenceOutOfDate(_, _, _) => 12,
+        Refusal::DeleteMustNotExist(_) => 13,
+        Refusal::LogFull => 14,
+        Refusal::WrongState => 15,
+        Refusal::BadName => 18,
+        Refusal::NamesFull => 19,
+        Refusal::WrongLock => 20,
+        Refusal::BadLoad => 21,
+        Refusal::NothingThere => 22,
+    }
+}
+
+// ---- the answer
+
+fn places_of(verdict: Verdict) -> [u64; 16]
+    ensures { λ r. ⌜ r ≡ answerBy verdict .places ⌝ }
+{
+    match verdict {
+        Verdict::Done => one_place(0),
+        Verdict::Number(n) => one_place(n),
+        Verdict::Bytes(offset, len) => two_places(offset, len),
+        Verdict::Value(t) => two_places(t.byte(), t.number()),
+        Verdict::Line(l) => line_places(l),
+        Verdict::Row(row) => row_places(row),
+        Verdict::Refused(x) => refusal_places(x),
+    }
+}
+
+fn number_of(verdict: Verdict) -> u32
+    ensures { λ r. ⌜ r ≡ answerBy verdict .number ⌝ }
+{
+    match verdict {
+        Verdict::Done => 0,
+        Verdict::Number(_) => 0,
+        Verdict::Bytes(_, _) => 0,
+        Verdict::Value(_) => 0,
+        Verdict::Line(_) => 0,
+        Verdict::Row(_) => 0,
+        Verdict::Refused(x) => refusal_number(x),
+    }
+}
+
+// Fills the record, and gives the number.
+pub fn finish(answer: &mut [u8], verdict: Verdict) -> u32
+    requires { ⌜ length (now answer) ≡ 128 ⌝ }
+    ensures { λ r. ⌜ (r ≡ answerBy verdict .number) × (now (answer .exit) ≡ recordOf (answerBy verdict .places)) ⌝ }
+{
+    put_places(answer, places_of(verdict));
+    number_of(verdict)
+}

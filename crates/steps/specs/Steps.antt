@@ -1,0 +1,77 @@
+-- What the functions below the calls come to, each by what the model's call does.
+use mathlib.Core.Path.{_≡_}
+use mathlib.Core.Bool.{Bool, true, false, _&&_, cond}
+use mathlib.Core.List.{List, [], _∷_}
+use mathlib.Core.Option.{Option, none, some}
+use Prim.Native.Nat.{ℕ, zero, suc, _-_}
+use lib.ListN.{length, getD}
+use lib.Dec.{eqb, ltb}
+use Rattle.model.specs.declared.Lock.{Lock}
+use Rattle.model.specs.declared.Lock.the-variants.{Free, Foreign, Ours}
+use Rattle.model.specs.declared.Packed.{Packed}
+use Rattle.model.specs.declared.Packed.the-variants as packed
+use Rattle.model.specs.declared.Line.{Line}
+use Rattle.model.specs.declared.Refusal.the-variants.{NotRegistered, WrongState}
+use Rattle.model.specs.Store.{Store, Entry, noLine, count, isPrepared, isId, putLock, changeEntry}
+use Rattle.model.specs.Commit.{freed}
+use Rattle.steps.specs.declared.Found.{Found}
+use Rattle.steps.specs.declared.Found.the-variants.{Nowhere, At}
+use Rattle.steps.specs.declared.Ready.{Ready}
+use Rattle.steps.specs.declared.Ready.the-variants.{Go, Stop}
+use Rattle.steps.specs.declared.OptionPacked.{OptionPacked}
+use Rattle.steps.specs.declared.OptionPacked.the-variants as optionPacked
+use Rattle.steps.specs.declared.OptionLine.{OptionLine}
+use Rattle.steps.specs.declared.OptionLine.the-variants as optionLine
+use Rattle.steps.specs.declared.Turned.{Turned}
+use Rattle.steps.specs.declared.Turned.the-variants as turned
+
+-- ---- names
+
+abbrev pub foundOption : Found → Option ℕ
+foundOption Nowhere = none
+foundOption (At n) = some n
+
+-- ---- loads
+
+-- 15, then 3
+unfoldable pub readyFor : ℕ → Store → Ready
+readyFor n s = cond (isPrepared (s .prepared)) (Stop WrongState) (cond (ltb n (count s)) Go (Stop (NotRegistered n)))
+
+abbrev pub packedBy : Bool → ℕ → ℕ → Option Packed
+packedBy packable zero x = cond (eqb x 0) (some packed.None) none
+packedBy packable (suc zero) x = cond (isId x && packable) (some (packed.Object (record { 0 = x }))) none
+packedBy packable (suc (suc k)) x = none
+
+abbrev pub packedOption : OptionPacked → Option Packed
+packedOption optionPacked.NoPacked = none
+packedOption (optionPacked.Packed v) = some v
+
+-- ---- locks
+
+abbrev pub placedOn : Lock → Turned
+placedOn Free = turned.Becomes Foreign
+placedOn Foreign = turned.Refused
+placedOn Ours = turned.Refused
+
+abbrev pub liftedFrom : Lock → Turned
+liftedFrom Free = turned.Refused
+liftedFrom Foreign = turned.Becomes Free
+liftedFrom Ours = turned.Refused
+
+-- the first k names' locks freed
+unfoldable pub freeNames : ℕ → Store → Store
+freeNames zero s = s
+freeNames (suc k) s = changeEntry (λ (e : Entry). putLock (freed (e .lock)) e) k (freeNames k s)
+
+-- ---- lines
+
+abbrev pub lineOption : OptionLine → Option Line
+lineOption optionLine.NoLine = none
+lineOption (optionLine.Line l) = some l
+
+abbrev pub lineAmong : ℕ → List Line → Option Line
+lineAmong place ls = cond (ltb place (length ls)) (some (getD ls place noLine)) none
+
+-- of the lines to pass, how many are left after one that is the name's or not
+abbrev pub leftAfter : Bool → ℕ → ℕ
+leftAfter same left = cond same (left - 1) left

@@ -1,0 +1,231 @@
+// What the calls are made of: functions on a region that is laid out so, each by what the model's call does.
+ghost use mathlib.Core.Path.{_≡_};
+ghost use mathlib.Core.Bool.{true, _&&_};
+ghost use lib.Dec.{eqb};
+ghost use Rattle.model.specs.Store.{count, linesOf};
+ghost use Rattle.model.specs.Read.{looseOr, packedValue};
+ghost use Rattle.model.specs.Commit.{freed, released};
+ghost use Rattle.model.specs.Load.{numberFrom};
+ghost use Rattle.region.specs.Region.{view, Laid, Became};
+ghost use Rattle.steps.specs.Steps.{foundOption, readyFor, packedBy, packedOption, placedOn, liftedFrom, freeNames};
+ghost use Rattle.steps.specs.Steps.{lineOption, lineAmong, leftAfter};
+use model::Line;
+use model::Lock;
+use model::Loose;
+use model::Packed;
+use model::Refusal;
+use target::NameNumber;
+use target::ObjectNumber;
+use target::OptionTarget;
+use target::Target;
+
+// ---- names
+
+pub enum Found {
+    Nowhere,
+    At(usize),
+}
+
+// The number of the name with these bytes.
+pub fn find_name(region: &[u8], name: &[u8]) -> Found
+    requires { ⌜ Laid (now region) ⌝ }
+    ensures { λ r. ⌜ foundOption r ≡ numberFrom 0 (now (name .entry)) (view (now (region .entry)) .entries) ⌝ }
+{
+    let count = region::count_names(region);
+    let mut n: usize = 0;
+    while n < count {
+        let same = word::same(name, region::name_at(region, n));
+        if same {
+            return Found::At(n);
+        } else {
+            n += 1;
+        }
+    }
+    Found::Nowhere
+}
+
+// ---- loads
+
+// 15 and 3: nothing is prepared, and the name is registered.
+pub enum Ready {
+    Go,
+    Stop(Refusal),
+}
+
+pub fn ready_to_load(region: &[u8], name: u64) -> Ready
+    requires { ⌜ Laid (now region) ⌝ }
+    ensures { λ r. ⌜ r ≡ readyFor name (view (now (region .entry))) ⌝ }
+{
+    if region::mode_number(region) != 0 {
+        return Ready::Stop(Refusal::WrongState);
+    }
+    if name >= (region::count_names(region) as u64) {
+        return Ready::Stop(Refusal::NotRegistered(name));
+    }
+    Ready::Go
+}
+
+// A packed value of a kind and a number, on a name that is packable or not.
+pub enum OptionPacked {
+    NoPacked,
+    Packed(Packed),
+}
+
+pub fn packed_of(packable: bool, kind: u64, number: u64) -> OptionPacked
+    ensures { λ r. ⌜ packedOption r ≡ packedBy packable kind number ⌝ }
+{
+    match kind {
+        0 => {
+            if number != 0 {
+                return OptionPacked::NoPacked;
+            }
+            OptionPacked::Packed(Packed::None)
+        }
+        1 => {
+            if number == ObjectNumber::NULL {
+                return OptionPacked::NoPacked;
+            }
+            if !packable {
+                return OptionPacked::NoPacked;
+            }
+            OptionPacked::Packed(Packed::Object(ObjectNumber(number)))
+        }
+        _ => OptionPacked::NoPacked,
+    }
+}
+
+// ---- locks
+
+// What a lock becomes: placed where it is free, lifted where it is foreign.
+pub enum Turned {
+    Refused,
+    Becomes(Lock),
+}
+
+pub fn place_on(lock: Lock) -> Turned
+    ensures { λ r. ⌜ r ≡ placedOn lock ⌝ }
+{
+    match lock {
+        Lock::Free => Turned::Becomes(Lock::Foreign),
+        Lock::Foreign => Turned::Refused,
+        Lock::Ours => Turned::Refused,
+    }
+}
+
+pub fn lift_from(lock: Lock) -> Turned
+    ensures { λ r. ⌜ r ≡ liftedFrom lock ⌝ }
+{
+    match lock {
+        Lock::Free => Turned::Refused,
+        Lock::Foreign => Turned::Becomes(Lock::Free),
+        Lock::Ours => Turned::Refused,
+    }
+}
+
+pub fn freed_lock(lock: Lock) -> Lock
+    ensures { λ r. ⌜ r ≡ freed lock ⌝ }
+{
+    match lock {
+        Lock::Free => Lock::Free,
+        Lock::Foreign => Lock::Foreign,
+        Lock::Ours => Lock::Free,
+    }
+}
+
+// Every lock that is ours is free.
+pub fn free_names(region: &mut [u8])
+    requires { ⌜ Laid (now region) ⌝ }
+    ensures { λ _. ⌜ Became (now (region .exit)) (freeNames (count (view (now (region .entry)))) (view (now (region .entry)))) ⌝ }
+{
+    let count = region::count_names(region);
+    let mut n: usize = 0;
+    while n < count {
+        let lock = freed_lock(region::lock_at(region, n));
+        region::put_lock_at(region, n, lock);
+        n += 1;
+    }
+}
+
+// The transaction is forgotten, and the locks that were ours are free.
+pub fn release(region: &mut [u8])
+    requires { ⌜ Laid (now region) ⌝ }
+    ensures { λ _. ⌜ Became (now (region .exit)) (released (view (now (region .entry)))) ⌝ }
+{
+    free_names(region);
+    let lock = freed_lock(region::packed_lock(region));
+    region::put_packed_lock(region, lock);
+    region::forget_rows(region);
+}
+
+// ---- reads
+
+pub fn packed_value(packed: Packed) -> OptionTarget
+    ensures { λ r. ⌜ r ≡ packedValue true packed ⌝ }
+{
+    match packed {
+        Packed::None => OptionTarget::Absent,
+        Packed::Object(oid) => OptionTarget::Present(Target::Object(oid)),
+    }
+}
+
+// A name's loose target; if that is none or broken, its packed value; else absent.
+pub fn value_of(loose: Loose, packed: Packed) -> OptionTarget
+    ensures { λ r. ⌜ r ≡ looseOr loose (packedValue true packed) ⌝ }
+{
+    match loose {
+        Loose::Target(t) => OptionTarget::Present(t),
+        Loose::None => packed_value(packed),
+        Loose::Broken => packed_value(packed),
+    }
+}
+
+pub enum OptionLine {
+    NoLine,
+    Line(Line),
+}
+
+// Whether a line is the one: it is the name's, and no other is to be passed before.
+fn is_here(same: bool, left: u64) -> bool
+    ensures { λ r. ⌜ r ≡ (same && eqb left 0) ⌝ }
+{
+    if same {
+        return left == 0;
+    }
+    false
+}
+
+// How many of the name's lines are to be passed after this one.
+fn left_after(same: bool, left: u64) -> u64
+    ensures { λ r. ⌜ r ≡ leftAfter same left ⌝ }
+{
+    if !same {
+        return left;
+    }
+    if left == 0 {
+        return 0;
+    }
+    left - 1
+}
+
+// The line of a name at a place among its lines.
+pub fn find_line(region: &[u8], name: NameNumber, place: u64) -> OptionLine
+    requires { ⌜ Laid (now region) ⌝ }
+    ensures { λ r. ⌜ lineOption r ≡ lineAmong place (linesOf (view (now (region .entry))) name) ⌝ }
+{
+    let lines = region::count_lines(region);
+    let mut left = place;
+    let mut i: usize = 0;
+    while i < lines {
+        let line = region::line_at(region, i);
+        let of = line.name;
+        let same = of.eq(name);
+        let here = is_here(same, left);
+        if here {
+            return OptionLine::Line(line);
+        } else {
+            left = left_after(same, left);
+            i += 1;
+        }
+    }
+    OptionLine::NoLine
+}
