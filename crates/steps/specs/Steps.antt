@@ -1,4 +1,4 @@
--- What the functions below the calls come to, each by what the model's call does.
+-- What the functions below the calls come to. Proofs of the calls are to show that these are what the model's `step` does.
 use mathlib.Core.Path.{_≡_}
 use mathlib.Core.Bool.{Bool, true, false, _&&_, cond}
 use mathlib.Core.List.{List, [], _∷_}
