@@ -1,0 +1,108 @@
+-- What every call does with a region and an answer record, by what the model's step does to a store: one shape for all calls.
+use mathlib.Core.Path.{_≡_}
+use mathlib.Core.Bool.{Bool, true, false, cond}
+use mathlib.Core.List.{List, []}
+use mathlib.Core.Option.{Option, none, some}
+use Prim.Native.Nat.{ℕ}
+use lib.ListN.{length, getD}
+use lib.Dec.{eqb}
+use Rattle.word.specs.Be.{cut}
+use Rattle.model.specs.declared.Refusal.the-variants.{BadRegion}
+use Rattle.model.specs.declared.WriteReflog.{WriteReflog}
+use Rattle.model.specs.declared.WriteReflog.the-variants.{Disable}
+use Rattle.model.specs.Store.{Store, empty}
+use Rattle.model.specs.Reply.{Call, Reply}
+use Rattle.model.specs.Reply.Call.{start, addName, nameBytes, loadLoose, loadPacked, lockName, unlockName, lockPacked, unlockPacked, prepare, commit, rollback, readName, readLine, readRow}
+use Rattle.model.specs.Reply.Reply.{done, stopped, refused}
+use Rattle.model.specs.Calls.{step}
+use Rattle.model.specs.Numbers.{answerOf}
+use Rattle.region.specs.Layout.{regionSize}
+use Rattle.region.specs.Region.{image, decode, nameOffset}
+use Rattle.answers.specs.declared.Verdict.{Verdict}
+use Rattle.answers.specs.Answers.{recordOf, answerBy}
+use Rattle.calls.specs.declared.OptionSetting.{OptionSetting}
+use Rattle.calls.specs.declared.OptionSetting.the-variants.{NoSetting, Setting}
+
+-- ---- a call on a region
+
+-- start takes the region's bytes for nothing, and looks at its size alone
+abbrev pub sized : List ℕ → Option Store
+sized r = cond (eqb (length r) regionSize) (some (empty Disable)) none
+
+-- the store that a call finds in a region
+abbrev pub found : Call → List ℕ → Option Store
+found (start k) r = sized r
+found (addName bytes) r = decode r
+found (nameBytes n) r = decode r
+found (loadLoose n kind x) r = decode r
+found (loadPacked n kind x) r = decode r
+found (lockName n) r = decode r
+found (unlockName n) r = decode r
+found lockPacked r = decode r
+found unlockPacked r = decode r
+found (prepare list mode) r = decode r
+found (commit committer allowance) r = decode r
+found rollback r = decode r
+found (readName n) r = decode r
+found (readLine n place) r = decode r
+found (readRow place) r = decode r
+
+-- 1: a region that holds no store
+abbrev pub stepOn : Call → Option Store → Reply
+stepOn c none = refused BadRegion
+stepOn c (some s) = step c s
+
+unfoldable pub replyTo : Call → List ℕ → Reply
+replyTo c r = stepOn c (found c r)
+
+-- the region that a reply leaves: the image of its store; a refusal leaves the region as it is
+abbrev pub regionAfter : Reply → List ℕ → List ℕ
+regionAfter (done s given) r = image s
+regionAfter (stopped why s made) r = image s
+regionAfter (refused x) r = r
+
+-- ---- what the caller gets: the number, the answer record and the region
+
+pub record Out : Type 0 where
+  pub code : ℕ
+  pub answer : List ℕ
+  pub region : List ℕ
+
+unfoldable pub outOf : Reply → List ℕ → Out
+outOf reply r = record {
+  code = answerOf nameOffset reply .number;
+  answer = recordOf (answerOf nameOffset reply .places);
+  region = regionAfter reply r;
+}
+
+-- a record of another size: 1, and nothing is written anywhere
+unfoldable pub call : Call → List ℕ → List ℕ → Out
+call c r a = cond (eqb (length a) 128) (outOf (replyTo c r) r) (record { code = 1; answer = a; region = r })
+
+-- the contract of every exported call
+pub record Did (o : Out) (n : ℕ) (a r : List ℕ) : Type 0 where
+  pub code : n ≡ o .code
+  pub answer : a ≡ o .answer
+  pub region : r ≡ o .region
+
+-- ---- below the exports
+
+-- the contract of the function on plain values below each exported call
+pub record Replied (v : Verdict) (r r′ : List ℕ) (reply : Reply) : Type 0 where
+  pub answer : answerBy v ≡ answerOf nameOffset reply
+  pub region : r′ ≡ regionAfter reply r
+
+-- ---- the bytes of a name, handed back as a part of the region: what stands at the offset and length that name_bytes answers. A
+-- refusal answers length 0
+
+abbrev pub stretch : List ℕ → List ℕ → List ℕ
+stretch places r = cut (getD places 0 0) (getD places 1 0) r
+
+unfoldable pub namePart : ℕ → List ℕ → List ℕ
+namePart n r = stretch (answerOf nameOffset (replyTo (nameBytes n) r) .places) r
+
+-- ---- start's number
+
+abbrev pub settingOption : OptionSetting → Option WriteReflog
+settingOption NoSetting = none
+settingOption (Setting s) = some s

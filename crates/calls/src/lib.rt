@@ -1,0 +1,56 @@
+// What calls have in common, and the two that have no name or number to look at: start and rollback. Each tests the region,
+// does what the model's call does, and gives a verdict.
+ghost use mathlib.Core.Path.{_≡_};
+ghost use Rattle.model.specs.Load.{settingOf};
+ghost use Rattle.model.specs.Reply.Call.{start, rollback};
+ghost use Rattle.calls.specs.Call.{replyTo, Replied, settingOption};
+use answers::Verdict;
+use model::Refusal;
+use model::WriteReflog;
+use region::Layout;
+
+// ---- start
+
+pub enum OptionSetting {
+    NoSetting,
+    Setting(WriteReflog),
+}
+
+fn setting_of(number: u64) -> OptionSetting
+    ensures { λ r. ⌜ settingOption r ≡ settingOf number ⌝ }
+{
+    match number {
+        WriteReflog::DISABLE => OptionSetting::Setting(WriteReflog::Disable),
+        WriteReflog::NORMAL => OptionSetting::Setting(WriteReflog::Normal),
+        WriteReflog::ALWAYS => OptionSetting::Setting(WriteReflog::Always),
+        _ => OptionSetting::NoSetting,
+    }
+}
+
+// An empty store, whatever the region held.
+pub fn start_with(region: &mut [u8], setting: u64) -> Verdict
+    ensures { λ r. ⌜ Replied r (now (region .entry)) (now (region .exit)) (replyTo (start setting) (now (region .entry))) ⌝ }
+{
+    if region.len() != Layout::SIZE {
+        return Verdict::Refused(Refusal::BadRegion);
+    }
+    let OptionSetting::Setting(s) = setting_of(setting) else {
+        return Verdict::Refused(Refusal::Malformed);
+    };
+    region::make_empty(region, s);
+    Verdict::Done
+}
+
+// ---- rollback
+
+// The transaction is forgotten, and its locks are free: how many rows it had.
+pub fn roll_back(region: &mut [u8]) -> Verdict
+    ensures { λ r. ⌜ Replied r (now (region .entry)) (now (region .exit)) (replyTo rollback (now (region .entry))) ⌝ }
+{
+    if !good::is_good(region) {
+        return Verdict::Refused(Refusal::BadRegion);
+    }
+    let rows = region::count_rows(region);
+    steps::release(region);
+    Verdict::Number(rows as u64)
+}

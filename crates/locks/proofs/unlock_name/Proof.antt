@@ -1,0 +1,71 @@
+use borrow.Author.Needs.{needs}
+use Rattle.calls.proofs.Replies.{good-laid, bad-region}
+use Rattle.calls.proofs.Known.{near}
+use Rattle.locks.proofs.Laws.{unlock-far, unlock-no, unlock-done}
+use Rattle.locks.proofs.unlock_name.Statement.{statement}
+use Rattle.locks.proofs.unlock_name.Tie as tie
+
+is-good-requires : tie.Need-is-good-requires
+is-good-requires c κs = search needs
+
+same-length : tie.Need-same-length
+same-length c = search needs
+
+returns : tie.Need-returns
+returns c = search bad-region
+
+count-names-requires : tie.Need-count-names-requires
+count-names-requires c κs = search good-laid
+
+same-length-2 : tie.Need-same-length-2
+same-length-2 c = search needs
+
+returns-2 : tie.Need-returns-2
+returns-2 c = search unlock-far
+
+lock-at-requires : tie.Need-lock-at-requires
+lock-at-requires c κs = (search good-laid, search near)
+
+lift-from-requires : tie.Need-lift-from-requires
+lift-from-requires c κs = search needs
+
+enum-known-lock : tie.Need-enum-known-lock
+enum-known-lock c = search needs
+
+enum-told : tie.Need-enum-told
+enum-told c = search needs
+
+same-length-3 : tie.Need-same-length-3
+same-length-3 c = search needs
+
+returns-3 : tie.Need-returns-3
+returns-3 c = search unlock-no
+
+put-lock-at-requires : tie.Need-put-lock-at-requires
+put-lock-at-requires c κs = (search good-laid, search near)
+
+same-length-4 : tie.Need-same-length-4
+same-length-4 c = search needs
+
+returns-4 : tie.Need-returns-4
+returns-4 c = search unlock-done
+
+pub unlock-name-spec : {M : Type 1} → statement M
+unlock-name-spec =
+    tie.close
+    (tie.spec
+    is-good-requires
+    same-length
+    returns
+    count-names-requires
+    same-length-2
+    returns-2
+    lock-at-requires
+    lift-from-requires
+    enum-known-lock
+    enum-told
+    same-length-3
+    returns-3
+    put-lock-at-requires
+    same-length-4
+    returns-4)

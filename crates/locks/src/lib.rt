@@ -1,0 +1,66 @@
+// Foreign locks: placed on a name or on the packed table, and lifted from it.
+ghost use Rattle.model.specs.Reply.Call.{lockName, unlockName, lockPacked, unlockPacked};
+ghost use Rattle.calls.specs.Call.{replyTo, Replied};
+use answers::Verdict;
+use model::Refusal;
+use steps::Turned;
+
+pub fn lock_name(region: &mut [u8], name: u64) -> Verdict
+    ensures { λ r. ⌜ Replied r (now (region .entry)) (now (region .exit)) (replyTo (lockName name) (now (region .entry))) ⌝ }
+{
+    if !good::is_good(region) {
+        return Verdict::Refused(Refusal::BadRegion);
+    }
+    if name >= (region::count_names(region) as u64) {
+        return Verdict::Refused(Refusal::NotRegistered(name));
+    }
+    let n = name as usize;
+    let Turned::Becomes(lock) = steps::place_on(region::lock_at(region, n)) else {
+        return Verdict::Refused(Refusal::WrongLock);
+    };
+    region::put_lock_at(region, n, lock);
+    Verdict::Done
+}
+
+pub fn unlock_name(region: &mut [u8], name: u64) -> Verdict
+    ensures { λ r. ⌜ Replied r (now (region .entry)) (now (region .exit)) (replyTo (unlockName name) (now (region .entry))) ⌝ }
+{
+    if !good::is_good(region) {
+        return Verdict::Refused(Refusal::BadRegion);
+    }
+    if name >= (region::count_names(region) as u64) {
+        return Verdict::Refused(Refusal::NotRegistered(name));
+    }
+    let n = name as usize;
+    let Turned::Becomes(lock) = steps::lift_from(region::lock_at(region, n)) else {
+        return Verdict::Refused(Refusal::WrongLock);
+    };
+    region::put_lock_at(region, n, lock);
+    Verdict::Done
+}
+
+pub fn lock_packed(region: &mut [u8]) -> Verdict
+    ensures { λ r. ⌜ Replied r (now (region .entry)) (now (region .exit)) (replyTo lockPacked (now (region .entry))) ⌝ }
+{
+    if !good::is_good(region) {
+        return Verdict::Refused(Refusal::BadRegion);
+    }
+    let Turned::Becomes(lock) = steps::place_on(region::packed_lock(region)) else {
+        return Verdict::Refused(Refusal::WrongLock);
+    };
+    region::put_packed_lock(region, lock);
+    Verdict::Done
+}
+
+pub fn unlock_packed(region: &mut [u8]) -> Verdict
+    ensures { λ r. ⌜ Replied r (now (region .entry)) (now (region .exit)) (replyTo unlockPacked (now (region .entry))) ⌝ }
+{
+    if !good::is_good(region) {
+        return Verdict::Refused(Refusal::BadRegion);
+    }
+    let Turned::Becomes(lock) = steps::lift_from(region::packed_lock(region)) else {
+        return Verdict::Refused(Refusal::WrongLock);
+    };
+    region::put_packed_lock(region, lock);
+    Verdict::Done
+}

@@ -1,0 +1,100 @@
+-- Reads: what each way out answers. Assumes nothing.
+use mathlib.Core.Path.{_≡_, refl, sym, ap, _∙_}
+use mathlib.Core.Bool.{Bool, true, false, not, cond}
+use mathlib.Core.List.{List}
+use mathlib.Core.Option.{none, some}
+use Prim.Native.Nat.{ℕ, _<_, _≤_, _^_}
+use native.Mathlib.Omega.{arith}
+use lib.ListN.{length, getD}
+use lib.Dec.{ltb, leb}
+use borrow.Author.Tests.{lt-leb, le-leb, ltb-true, ltb-false}
+use mir.Val.{Fits}
+use mir.Syntax.{w16}
+use Rattle.target.specs.declared.OptionTarget.{OptionTarget}
+use Rattle.transaction.specs.declared.Edit.{Edit}
+use Rattle.model.specs.declared.Loose.{Loose}
+use Rattle.model.specs.declared.Packed.{Packed}
+use Rattle.model.specs.declared.Line.{Line}
+use Rattle.model.specs.declared.Refusal.the-variants.{NotRegistered, NothingThere}
+use Rattle.model.specs.Store.{Store, count, entryAt, linesOf, rowsIn, noLine}
+use Rattle.model.specs.Read.{looseOr, packedValue, reading}
+use Rattle.model.specs.Rows.{rowAt}
+use Rattle.model.specs.Reply.Call.{readName, readLine, readRow}
+use Rattle.model.specs.Reply.Given.{value, line, row}
+use Rattle.model.specs.Calls.{step, nameRead, lineRead, rowRead}
+use Rattle.region.specs.Region.{view, good, Laid}
+use Rattle.steps.specs.declared.OptionLine.{OptionLine}
+use Rattle.steps.specs.declared.OptionLine.the-variants as optionLine
+use Rattle.steps.specs.Steps.{lineOption, lineAmong}
+use Rattle.answers.specs.declared.Verdict.the-variants as verdict
+use Rattle.calls.specs.Call.{replyTo, Replied}
+use Rattle.calls.proofs.Replies.{good-laid, says-no, says-read}
+use Rattle.calls.proofs.Known.{known-far, known-near}
+
+-- a registered number has 16 bits
+pub near-fits : (r : List ℕ) (ok : Bool) (n k : ℕ) → ok ≡ good r → not ok ≡ false → k ≡ count (view r) → n < k → Fits w16 n
+near-fits r ok n k is y e l =
+    let most : count (view r) ≤ 256 = good-laid r ok is y .names in
+    record { fits = let p : n < 2 ^ 16 = omega arith in p }
+
+-- a line at a place is there exactly where the place is below the count
+no-line : (place : ℕ) (ls : List Line) → none ≡ lineAmong place ls → leb (length ls) place ≡ true
+no-line place ls h = go (ltb place (length ls)) refl h
+  where
+    go : (b : Bool) → ltb place (length ls) ≡ b → none ≡ cond b (some (getD ls place noLine)) none → leb (length ls) place ≡ true
+    go true e h = absurd (let z : _≡_ {A = ℕ} 0 1 = cc in omega arith)
+    go false e h = le-leb (length ls) place (ltb-false place (length ls) e)
+
+a-line : (place : ℕ) (ls : List Line) (x : Line) → some x ≡ lineAmong place ls → (leb (length ls) place ≡ false) × (x ≡ getD ls place noLine)
+a-line place ls x h = go (ltb place (length ls)) refl h
+  where
+    go : (b : Bool) → ltb place (length ls) ≡ b → some x ≡ cond b (some (getD ls place noLine)) none
+        → (leb (length ls) place ≡ false) × (x ≡ getD ls place noLine)
+    go true e h = (lt-leb (length ls) place (ltb-true place (length ls) e), cc)
+    go false e h = absurd (let z : _≡_ {A = ℕ} 0 1 = cc in omega arith)
+
+module _ (r : List ℕ) (ok : Bool) (is : ok ≡ good r) (y : not ok ≡ false) where
+  module _ (n k : ℕ) (e : k ≡ count (view r)) where
+    pub name-far : k ≤ n → Replied (verdict.Refused (NotRegistered n)) r r (replyTo (readName n) r)
+    unfolding step nameRead
+    name-far l = says-no (readName n) r ok is refl y (NotRegistered n) (rw (known-far n k (view r) e l))
+
+    pub name-done : n < k → (l : Loose) (p : Packed) (v : OptionTarget) → l ≡ entryAt (view r) n .loose → p ≡ entryAt (view r) n .packed
+        → v ≡ looseOr l (packedValue true p) → Replied (verdict.Value v) r r (replyTo (readName n) r)
+    unfolding step nameRead reading
+    name-done l a p v ea ep ev =
+        rw (ev, ea, ep) (says-read (readName n) r ok is refl y (verdict.Value (reading (view r) (record { 0 = n }))) (value (reading (view r) (record { 0 = n }))) (rw (known-near n k (view r) e l)) refl)
+
+    module _ (place : ℕ) where
+      pub line-far : k ≤ n → Replied (verdict.Refused (NotRegistered n)) r r (replyTo (readLine n place) r)
+      unfolding step lineRead
+      line-far l = says-no (readLine n place) r ok is refl y (NotRegistered n) (rw (known-far n k (view r) e l))
+
+      module _ (l : n < k) (o : OptionLine) (eo : lineOption o ≡ lineAmong place (linesOf (view r) (record { 0 = n }))) where
+        pub line-none : o ≡ optionLine.NoLine → Replied (verdict.Refused NothingThere) r r (replyTo (readLine n place) r)
+        unfolding step lineRead
+        line-none h =
+            let m : none ≡ lineAmong place (linesOf (view r) (record { 0 = n })) = ap lineOption (sym h) ∙ eo in
+            says-no (readLine n place) r ok is refl y NothingThere (rw (known-near n k (view r) e l, no-line place (linesOf (view r) (record { 0 = n })) m))
+
+        pub line-done : (x : Line) → o ≡ optionLine.Line x → Replied (verdict.Line x) r r (replyTo (readLine n place) r)
+        unfolding step lineRead
+        line-done x h =
+            let m : some x ≡ lineAmong place (linesOf (view r) (record { 0 = n })) = ap lineOption (sym h) ∙ eo in
+            rw (a-line place (linesOf (view r) (record { 0 = n })) x m .1) (says-read (readLine n place) r ok is refl y (verdict.Line (getD (linesOf (view r) (record { 0 = n })) place noLine)) (line (getD (linesOf (view r) (record { 0 = n })) place noLine)) (rw (known-near n k (view r) e l, a-line place (linesOf (view r) (record { 0 = n })) x m .0)) refl)
+
+  module _ (place k : ℕ) (e : k ≡ length (rowsIn (view r .prepared))) where
+    pub row-far : k ≤ place → Replied (verdict.Refused NothingThere) r r (replyTo (readRow place) r)
+    unfolding step rowRead
+    row-far l =
+        let b : length (rowsIn (view r .prepared)) ≤ place = rw e at l in
+        says-no (readRow place) r ok is refl y NothingThere (rw (le-leb _ _ b))
+
+    pub row-near : place < k → place < length (rowsIn (view r .prepared))
+    row-near l = rw e at l
+
+    pub row-done : place < k → (x : Edit) → x ≡ rowAt (rowsIn (view r .prepared)) place → Replied (verdict.Row x) r r (replyTo (readRow place) r)
+    unfolding step rowRead
+    row-done l x h =
+        let b : place < length (rowsIn (view r .prepared)) = rw e at l in
+        rw h (says-read (readRow place) r ok is refl y (verdict.Row (rowAt (rowsIn (view r .prepared)) place)) (row (rowAt (rowsIn (view r .prepared)) place)) (rw (lt-leb _ _ b)) refl)

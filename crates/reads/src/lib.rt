@@ -1,0 +1,48 @@
+// Reads: a name's value, a line of its log, and a row of the prepared transaction.
+ghost use Rattle.model.specs.Reply.Call.{readName, readLine, readRow};
+ghost use Rattle.calls.specs.Call.{replyTo, Replied};
+use answers::Verdict;
+use model::Refusal;
+use steps::OptionLine;
+use target::NameNumber;
+
+pub fn read_name(region: &[u8], name: u64) -> Verdict
+    ensures { λ r. ⌜ Replied r (now (region .entry)) (now (region .entry)) (replyTo (readName name) (now (region .entry))) ⌝ }
+{
+    if !good::is_good(region) {
+        return Verdict::Refused(Refusal::BadRegion);
+    }
+    if name >= (region::count_names(region) as u64) {
+        return Verdict::Refused(Refusal::NotRegistered(name));
+    }
+    let n = name as usize;
+    let value = steps::value_of(region::loose_at(region, n), region::packed_at(region, n));
+    Verdict::Value(value)
+}
+
+pub fn read_line(region: &[u8], name: u64, place: u64) -> Verdict
+    ensures { λ r. ⌜ Replied r (now (region .entry)) (now (region .entry)) (replyTo (readLine name place) (now (region .entry))) ⌝ }
+{
+    if !good::is_good(region) {
+        return Verdict::Refused(Refusal::BadRegion);
+    }
+    if name >= (region::count_names(region) as u64) {
+        return Verdict::Refused(Refusal::NotRegistered(name));
+    }
+    let OptionLine::Line(line) = steps::find_line(region, NameNumber(name as u16), place) else {
+        return Verdict::Refused(Refusal::NothingThere);
+    };
+    Verdict::Line(line)
+}
+
+pub fn read_row(region: &[u8], place: u64) -> Verdict
+    ensures { λ r. ⌜ Replied r (now (region .entry)) (now (region .entry)) (replyTo (readRow place) (now (region .entry))) ⌝ }
+{
+    if !good::is_good(region) {
+        return Verdict::Refused(Refusal::BadRegion);
+    }
+    if place >= (region::count_rows(region) as u64) {
+        return Verdict::Refused(Refusal::NothingThere);
+    }
+    Verdict::Row(region::row_at(region, place as usize))
+}
