@@ -1,0 +1,179 @@
+// The calls that a foreign program links. Each tests the answer record's size, makes the call and fills the record; its contract
+// fixes the number, every byte of the record and every byte of the region.
+ghost use Rattle.model.specs.Reply.Call.{start, addName, nameBytes, loadLoose, loadPacked, lockName, unlockName};
+ghost use Rattle.model.specs.Reply.Call.{lockPacked, unlockPacked, rollback, readName, readLine, readRow};
+ghost use Rattle.calls.specs.Call.{call, Did};
+use answers::Answer;
+
+// Makes an empty store, whatever the region held.
+#[no_mangle]
+pub extern "C" fn dehlbazin_start(region: &mut [u8], setting: u64, answer: &mut [u8]) -> u32
+    ensures { λ r. ⌜ Did (call (start setting) (now (region .entry)) (now (answer .entry))) r (now (answer .exit)) (now (region .exit)) ⌝ }
+{
+    if answer.len() != Answer::SIZE {
+        return 1;
+    }
+    let verdict = calls::start_with(region, setting);
+    answers::finish(answer, verdict)
+}
+
+// Adds a name, or finds it: its number.
+#[no_mangle]
+pub extern "C" fn dehlbazin_add_name(region: &mut [u8], name: &[u8], answer: &mut [u8]) -> u32
+    ensures { λ r. ⌜ Did (call (addName (now (name .entry))) (now (region .entry)) (now (answer .entry))) r (now (answer .exit)) (now (region .exit)) ⌝ }
+{
+    if answer.len() != Answer::SIZE {
+        return 1;
+    }
+    let verdict = naming::add_name(region, name);
+    answers::finish(answer, verdict)
+}
+
+// Where the bytes of a name stand in the region: offset and length.
+#[no_mangle]
+pub extern "C" fn dehlbazin_name_bytes(region: &[u8], name: u64, answer: &mut [u8]) -> u32
+    ensures { λ r. ⌜ Did (call (nameBytes name) (now (region .entry)) (now (answer .entry))) r (now (answer .exit)) (now (region .entry)) ⌝ }
+{
+    if answer.len() != Answer::SIZE {
+        return 1;
+    }
+    let verdict = naming::name_bytes(region, name);
+    answers::finish(answer, verdict)
+}
+
+// Sets the loose value of a name.
+#[no_mangle]
+pub extern "C" fn dehlbazin_load_loose(
+    region: &mut [u8],
+    name: u64,
+    kind: u64,
+    number: u64,
+    answer: &mut [u8],
+) -> u32
+    ensures { λ r. ⌜ Did (call (loadLoose name kind number) (now (region .entry)) (now (answer .entry))) r (now (answer .exit)) (now (region .exit)) ⌝ }
+{
+    if answer.len() != Answer::SIZE {
+        return 1;
+    }
+    let verdict = loads::load_loose(region, name, kind, number);
+    answers::finish(answer, verdict)
+}
+
+// Sets the packed value of a name.
+#[no_mangle]
+pub extern "C" fn dehlbazin_load_packed(
+    region: &mut [u8],
+    name: u64,
+    kind: u64,
+    number: u64,
+    answer: &mut [u8],
+) -> u32
+    ensures { λ r. ⌜ Did (call (loadPacked name kind number) (now (region .entry)) (now (answer .entry))) r (now (answer .exit)) (now (region .exit)) ⌝ }
+{
+    if answer.len() != Answer::SIZE {
+        return 1;
+    }
+    let verdict = loads::load_packed(region, name, kind, number);
+    answers::finish(answer, verdict)
+}
+
+// Places a foreign lock on a name.
+#[no_mangle]
+pub extern "C" fn dehlbazin_lock_name(region: &mut [u8], name: u64, answer: &mut [u8]) -> u32
+    ensures { λ r. ⌜ Did (call (lockName name) (now (region .entry)) (now (answer .entry))) r (now (answer .exit)) (now (region .exit)) ⌝ }
+{
+    if answer.len() != Answer::SIZE {
+        return 1;
+    }
+    let verdict = locks::lock_name(region, name);
+    answers::finish(answer, verdict)
+}
+
+// Lifts a foreign lock from a name.
+#[no_mangle]
+pub extern "C" fn dehlbazin_unlock_name(region: &mut [u8], name: u64, answer: &mut [u8]) -> u32
+    ensures { λ r. ⌜ Did (call (unlockName name) (now (region .entry)) (now (answer .entry))) r (now (answer .exit)) (now (region .exit)) ⌝ }
+{
+    if answer.len() != Answer::SIZE {
+        return 1;
+    }
+    let verdict = locks::unlock_name(region, name);
+    answers::finish(answer, verdict)
+}
+
+// Places a foreign lock on the packed table.
+#[no_mangle]
+pub extern "C" fn dehlbazin_lock_packed(region: &mut [u8], answer: &mut [u8]) -> u32
+    ensures { λ r. ⌜ Did (call lockPacked (now (region .entry)) (now (answer .entry))) r (now (answer .exit)) (now (region .exit)) ⌝ }
+{
+    if answer.len() != Answer::SIZE {
+        return 1;
+    }
+    let verdict = locks::lock_packed(region);
+    answers::finish(answer, verdict)
+}
+
+// Lifts a foreign lock from the packed table.
+#[no_mangle]
+pub extern "C" fn dehlbazin_unlock_packed(region: &mut [u8], answer: &mut [u8]) -> u32
+    ensures { λ r. ⌜ Did (call unlockPacked (now (region .entry)) (now (answer .entry))) r (now (answer .exit)) (now (region .exit)) ⌝ }
+{
+    if answer.len() != Answer::SIZE {
+        return 1;
+    }
+    let verdict = locks::unlock_packed(region);
+    answers::finish(answer, verdict)
+}
+
+// Forgets the prepared transaction and frees its locks: how many rows it had.
+#[no_mangle]
+pub extern "C" fn dehlbazin_rollback(region: &mut [u8], answer: &mut [u8]) -> u32
+    ensures { λ r. ⌜ Did (call rollback (now (region .entry)) (now (answer .entry))) r (now (answer .exit)) (now (region .exit)) ⌝ }
+{
+    if answer.len() != Answer::SIZE {
+        return 1;
+    }
+    let verdict = calls::roll_back(region);
+    answers::finish(answer, verdict)
+}
+
+// What a name reads.
+#[no_mangle]
+pub extern "C" fn dehlbazin_read_name(region: &[u8], name: u64, answer: &mut [u8]) -> u32
+    ensures { λ r. ⌜ Did (call (readName name) (now (region .entry)) (now (answer .entry))) r (now (answer .exit)) (now (region .entry)) ⌝ }
+{
+    if answer.len() != Answer::SIZE {
+        return 1;
+    }
+    let verdict = reads::read_name(region, name);
+    answers::finish(answer, verdict)
+}
+
+// A line of a name's log, by its place among them.
+#[no_mangle]
+pub extern "C" fn dehlbazin_read_line(
+    region: &[u8],
+    name: u64,
+    place: u64,
+    answer: &mut [u8],
+) -> u32
+    ensures { λ r. ⌜ Did (call (readLine name place) (now (region .entry)) (now (answer .entry))) r (now (answer .exit)) (now (region .entry)) ⌝ }
+{
+    if answer.len() != Answer::SIZE {
+        return 1;
+    }
+    let verdict = reads::read_line(region, name, place);
+    answers::finish(answer, verdict)
+}
+
+// A row of the prepared transaction.
+#[no_mangle]
+pub extern "C" fn dehlbazin_read_row(region: &[u8], place: u64, answer: &mut [u8]) -> u32
+    ensures { λ r. ⌜ Did (call (readRow place) (now (region .entry)) (now (answer .entry))) r (now (answer .exit)) (now (region .entry)) ⌝ }
+{
+    if answer.len() != Answer::SIZE {
+        return 1;
+    }
+    let verdict = reads::read_row(region, place);
+    answers::finish(answer, verdict)
+}
