@@ -1,8 +1,6 @@
 -- The test of a name number, whose refusal is 3. Assumes nothing.
 use mathlib.Core.Path.{_≡_}
 use Prim.Native.Nat.{ℕ, _<_, _≤_}
-use native.Mathlib.Omega.{arith}
-use lib.Dec.{ltb}
 use borrow.Author.Tests.{lt-ltb, le-ltb}
 use Rattle.model.specs.declared.Refusal.the-variants.{NotRegistered}
 use Rattle.model.specs.Store.{Store, count}

@@ -1,21 +1,18 @@
 -- Start and rollback: what each of their ways out answers. Assumes nothing.
-use mathlib.Core.Path.{_≡_, refl, sym, ap, _∙_}
-use mathlib.Core.Bool.{Bool, true, false, not, cond}
-use mathlib.Core.List.{List, [], _∷_}
-use mathlib.Core.Option.{Option, none, some}
+use mathlib.Core.Path.{_≡_, refl, _∙_}
+use mathlib.Core.Bool.{Bool, true, false, not}
+use mathlib.Core.List.{List}
+use mathlib.Core.Option.{none, some}
 use Prim.Native.Nat.{ℕ, zero, suc}
 use lib.ListN.{length}
-use lib.Dec.{eqb}
 use borrow.Author.Tests.{eq-eqb, ne-eqb}
 use Rattle.model.specs.declared.WriteReflog.{WriteReflog}
 use Rattle.model.specs.declared.WriteReflog.the-variants.{Disable, Normal, Always}
 use Rattle.model.specs.declared.Refusal.the-variants.{BadRegion, Malformed}
-use Rattle.model.specs.Store.{Store, empty, rowsIn}
+use Rattle.model.specs.Store.{empty, rowsIn}
 use Rattle.model.specs.Commit.{released}
-use Rattle.model.specs.Reply.{Call, Reply}
 use Rattle.model.specs.Reply.Call.{start, rollback}
-use Rattle.model.specs.Reply.Reply.{done, refused}
-use Rattle.model.specs.Reply.Given.{nothing, number}
+use Rattle.model.specs.Reply.Given.{number}
 use Rattle.model.specs.Calls.{step, rolledBack}
 use Rattle.model.specs.Load.{settingOf, started}
 use Rattle.model.specs.Numbers.{answerOf}
@@ -24,7 +21,7 @@ use Rattle.region.specs.Region.{image, view, good, Became}
 use Rattle.answers.specs.declared.Verdict.the-variants.{Done, Number, Refused}
 use Rattle.calls.specs.declared.OptionSetting.{OptionSetting}
 use Rattle.calls.specs.declared.OptionSetting.the-variants.{NoSetting, Setting}
-use Rattle.calls.specs.Call.{sized, stepOn, replyTo, Replied, settingOption}
+use Rattle.calls.specs.Call.{replyTo, Replied, settingOption}
 use Rattle.calls.proofs.Replies.{refuses, bad-region, says-done}
 
 -- ---- start

@@ -1,3 +1,4 @@
 pub mod Replies
 pub mod Laws
 pub mod Known
+pub mod Exports

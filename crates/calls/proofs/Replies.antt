@@ -1,18 +1,17 @@
 -- The ways in which a call can answer, one law for each, whatever the call. Assumes nothing.
 use mathlib.Core.Path.{_≡_, refl, sym, ap, _∙_}
-use mathlib.Core.Bool.{Bool, true, false, not, cond}
+use mathlib.Core.Bool.{Bool, true, false, not}
 use mathlib.Core.List.{List}
-use mathlib.Core.Option.{Option, none, some}
 use Prim.Native.Nat.{ℕ}
 use borrow.Author.Tests.{not-true, not-false}
 use Rattle.model.specs.declared.Refusal.{Refusal}
 use Rattle.model.specs.declared.Refusal.the-variants.{BadRegion}
 use Rattle.model.specs.Store.{Store}
-use Rattle.model.specs.Reply.{Call, Reply, Given}
+use Rattle.model.specs.Reply.{Call, Given}
 use Rattle.model.specs.Reply.Reply.{done, refused}
 use Rattle.model.specs.Calls.{step}
-use Rattle.model.specs.Numbers.{answer, answerOf, givenPlaces, refusalAnswer}
-use Rattle.region.specs.Region.{image, view, decode, good, nameOffset, Laid, Became}
+use Rattle.model.specs.Numbers.{answer, answerOf, givenPlaces}
+use Rattle.region.specs.Region.{view, decode, good, nameOffset, Laid, Became}
 use Rattle.region.proofs.Decode.{decode-good, decode-bad, good-parts, laid, laid-image, became-image}
 use Rattle.answers.specs.declared.Verdict.{Verdict}
 use Rattle.answers.specs.declared.Verdict.the-variants.{Refused}

@@ -1,14 +1,14 @@
 -- The test of the rules, part by part: a part that fails decides, and where all but the last hold, the last decides.
 -- Assumes nothing.
-use mathlib.Core.Path.{_≡_, refl, sym, ap, _∙_}
-use mathlib.Core.Bool.{Bool, true, false, not, _&&_, and-true, and-false}
+use mathlib.Core.Path.{_≡_, refl, sym, _∙_}
+use mathlib.Core.Bool.{Bool, true, false, not, and-true}
 use mathlib.Core.List.{List, [], _∷_}
-use Prim.Native.Nat.{ℕ, zero, suc, _+_, _≤_, _<_}
+use Prim.Native.Nat.{ℕ, zero, suc, _+_, _<_}
 use native.Mathlib.Omega.{arith}
 use lib.ListN.{length, getD, take}
 use lib.Dec.{leb}
 use borrow.Author.Tests.{not-true, not-false, lt-leb}
-use Rattle.word.proofs.Tests.{every-at, every-false, below-true, both-true}
+use Rattle.word.proofs.Tests.{every-at, every-false, below-true}
 use Rattle.model.specs.Basic.{every, below, Below}
 use Rattle.model.specs.Store.{Store, count, rowsIn}
 use Rattle.model.specs.Due.{dueLines}

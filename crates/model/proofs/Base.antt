@@ -10,15 +10,14 @@ use lib.ListN.{length, getD, length-set, length-map, List·getD-map}
 use lib.Seq.{getD-set-same, getD-set-other}
 use Rattle.model.specs.declared.Loose.{Loose}
 use Rattle.model.specs.declared.Packed.{Packed}
-use Rattle.model.specs.declared.Lock.{Lock}
-use Rattle.model.specs.declared.Lock.the-variants.{Free, Foreign, Ours}
+use Rattle.model.specs.declared.Lock.the-variants.{Ours}
 use Rattle.model.specs.declared.Line.{Line}
 use Rattle.model.specs.Basic.{Below}
 use Rattle.model.specs.Names.{isName}
-use Rattle.model.specs.Store.{Store, Entry, noEntry, count, entryAt, noLine, isLock, putLoose, putPacked, putLock, changeAt, changeEntry, withLines}
+use Rattle.model.specs.Store.{Store, Entry, noEntry, count, entryAt, noLine, isLock, putLoose, putPacked, changeAt, changeEntry, withLines}
 use Rattle.model.specs.Rows.{opens}
 use Rattle.model.specs.Fine.{Fine, fineLoose, finePacked, fineEntry, fineLine, fineLock, keptFor, apartNames}
-use Rattle.model.specs.Commit.{released, freed}
+use Rattle.model.specs.Commit.{released}
 use Rattle.model.specs.Reached.{Sound}
 use Rattle.model.proofs.Release.{released-at, freed-not-ours}
 

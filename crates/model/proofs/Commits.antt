@@ -1,9 +1,9 @@
 -- A commit of a prepared transaction: what it leaves is what the first of its writes leave, released. Assumes nothing.
-use mathlib.Core.Path.{_≡_, refl, sym, ap, _∙_, subst}
-use mathlib.Core.Bool.{Bool, true, false, not, cond}
-use mathlib.Core.List.{List, [], _∷_}
+use mathlib.Core.Path.{_≡_, refl, sym, ap, _∙_}
+use mathlib.Core.Bool.{Bool, true, false, cond}
+use mathlib.Core.List.{List}
 use mathlib.Core.Option.{Option, none, some}
-use Prim.Native.Nat.{ℕ, zero, suc, _+_, _≤_, _<_, min}
+use Prim.Native.Nat.{ℕ, _+_, _≤_, _<_, min}
 use native.Mathlib.Omega.{arith}
 use lib.ListN.{length, take}
 use lib.Seq.{take-all}
@@ -12,15 +12,13 @@ use borrow.Author.Tests.{lt-ltb, le-ltb, ltb-true, ltb-false}
 use Rattle.target.specs.declared.NameNumber.{NameNumber}
 use Rattle.model.specs.declared.Lock.the-variants.{Foreign, Ours}
 use Rattle.model.specs.declared.Refusal.the-variants.{Malformed}
-use Rattle.model.specs.Store.{Store, Entry, entryAt, linesOf, isPrepared, isLock}
+use Rattle.model.specs.Store.{Store, entryAt, linesOf, isPrepared, isLock}
 use Rattle.model.specs.Read.{reading}
-use Rattle.model.specs.Due.{Stamp}
-use Rattle.model.specs.Writes.{Write, writes, apply}
-use Rattle.model.specs.Commit.{Run, Stop, run, committing, released}
-use Rattle.model.specs.Commit.Stop.{noCommitter, usedUp}
+use Rattle.model.specs.Writes.{Write, writes}
+use Rattle.model.specs.Commit.{Run, Stop, committing, released}
+use Rattle.model.specs.Commit.Stop.{noCommitter}
 use Rattle.model.specs.Reply.{Reply, Given}
 use Rattle.model.specs.Reply.Reply.{done, stopped, refused}
-use Rattle.model.specs.Reply.Given.{number}
 use Rattle.model.specs.Reply.Call.{commit}
 use Rattle.model.specs.Calls.{ended, committed, step}
 use Rattle.model.specs.Reached.{leaves}

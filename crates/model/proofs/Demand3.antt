@@ -1,13 +1,10 @@
 -- Demand 3 holds: the proofs of the statements of specs/Demand3.antt. Assumes nothing.
-use mathlib.Core.Path.{_≡_, refl, sym, ap, _∙_}
-use mathlib.Core.Logic.{_⊎_, ⊎-elim, inl, inr}
-use Prim.Native.Nat.{ℕ}
-use Rattle.target.specs.declared.NameNumber.{NameNumber}
-use Rattle.target.specs.declared.OptionTarget.the-variants.{Absent}
+use mathlib.Core.Path.{sym, ap, _∙_}
+use mathlib.Core.Logic.{⊎-elim, inl, inr}
 use Rattle.model.specs.Store.{Store}
 use Rattle.model.specs.Read.{reading}
 use Rattle.model.specs.Rows.{nameIn, rowAt}
-use Rattle.model.specs.Demand3.{by, rows, stopAt, A, B, C₁, C₂, D, E, F₁, F₂}
+use Rattle.model.specs.Demand3.{by, rows, A, B, C₁, C₂, D, E, F₁, F₂}
 use Rattle.model.proofs.Kept.{reached-sound}
 use Rattle.model.proofs.Commits.{stopped-at, madeBy, made-mono, stop-reading, stop-lines, done-whole, unsigned-stop}
 use Rattle.model.proofs.Prefixes.{outside, old-or-new, never-back, no-log-left, updates-first, all-new}

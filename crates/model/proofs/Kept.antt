@@ -1,9 +1,8 @@
 -- The rules are kept: every call, from a store that obeys the rules, leaves one that does; and so of what holds of every
 -- reached store. Assumes nothing.
-use mathlib.Core.Path.{_≡_, refl, sym, ap, subst}
+use mathlib.Core.Path.{_≡_, refl}
 use mathlib.Core.List.{List}
 use Prim.Native.Nat.{ℕ}
-use Rattle.model.specs.declared.WriteReflog.{WriteReflog}
 use Rattle.model.specs.Store.{Store, Prepared, empty}
 use Rattle.model.specs.Outcome.{Outcome}
 use Rattle.model.specs.Outcome.Outcome.{refuse, pass}
@@ -12,7 +11,7 @@ use Rattle.model.specs.Fine.{Fine}
 use Rattle.model.specs.Reply.{Call}
 use Rattle.model.specs.Reply.Call.{start, addName, nameBytes, loadLoose, loadPacked, lockName, unlockName, lockPacked, unlockPacked, prepare, commit, rollback, readName, readLine, readRow}
 use Rattle.model.specs.Calls.{prepared, step}
-use Rattle.model.specs.Reached.{Reached, Sound, leaves}
+use Rattle.model.specs.Reached.{Sound, leaves}
 use Rattle.model.specs.Reached.Reached.{begun, after}
 use Rattle.model.specs.Kept.{Kept, ReachedSound}
 use Rattle.model.proofs.PrepareSound.{prepare-sound}

@@ -35,12 +35,12 @@ use Rattle.model.specs.Commit.{Stop, Run, isLine, run, committing}
 use Rattle.model.specs.Fine.{Fine, fineTarget, fineOption, finePacked, fineLine}
 use Rattle.model.specs.Reply.Call.{commit}
 use Rattle.model.specs.Calls.{ended, committed, step}
-use Rattle.model.specs.Reached.{leaves, Sound}
+use Rattle.model.specs.Reached.{leaves}
 use Rattle.model.proofs.Rules.{both-true, true-both}
 use Rattle.model.proofs.Places.{added-at, select-length, select-at, Each, each-append, each-when, each-cond, each-collect, each-weaken, each-map}
 use Rattle.model.proofs.FineEdit.{FineEdit, row-edit}
 use Rattle.model.proofs.Base.{changed-keeps, changed-count, Base, base, base-loose, base-packed, base-lines}
-use Rattle.model.proofs.KeptSimple.{Rule, ruleFine, ruleSound, released-kept, tested}
+use Rattle.model.proofs.KeptSimple.{Rule, released-kept, tested}
 
 -- ---- a write that keeps the rules
 

@@ -1,15 +1,14 @@
 -- A transaction that prepare accepts leaves a sound store. Assumes nothing.
-use mathlib.Core.Path.{_≡_, refl, sym, ap, _∙_, subst}
-use mathlib.Core.Bool.{Bool, true, false, _&&_, cond}
+use mathlib.Core.Path.{_≡_, refl, sym, subst}
+use mathlib.Core.Bool.{Bool, false, _&&_}
 use mathlib.Core.List.{List, map}
 use mathlib.Core.Option.{Option, none, some}
-use Prim.Native.Nat.{ℕ, _+_, _≤_}
+use Prim.Native.Nat.{ℕ, _+_}
 use native.Mathlib.Omega.{arith}
 use lib.ListN.{length}
 use lib.Dec.{ltb}
 use borrow.Author.Tests.{ltb-false}
 use Rattle.transaction.specs.declared.PackedRefs.{PackedRefs}
-use Rattle.transaction.specs.declared.RefEdit.{RefEdit}
 use Rattle.transaction.specs.declared.Edit.{Edit}
 use Rattle.transaction.specs.Change.{rowOf}
 use Rattle.transaction.specs.Fields.{packedRefsOf, packedRefsOption}
@@ -19,8 +18,8 @@ use Rattle.model.specs.Basic.{any}
 use Rattle.model.specs.Store.{Store, Prepared, isPrepared, isLock}
 use Rattle.model.specs.Rows.{counts, opens}
 use Rattle.model.specs.EditList.{editsOf}
-use Rattle.model.specs.Outcome.{Outcome, refuseIf, orRefuse}
-use Rattle.model.specs.Outcome.Outcome.{refuse, pass}
+use Rattle.model.specs.Outcome.{refuseIf, orRefuse}
+use Rattle.model.specs.Outcome.Outcome.{pass}
 use Rattle.model.specs.Split.{splits, oneNameOneEdit}
 use Rattle.model.specs.Due.{dueLines}
 use Rattle.model.specs.Prepare.{registered, opening, turnsFrom, rowsFor, held}

@@ -1,7 +1,7 @@
 -- What releasing leaves of a store: everything but the transaction and the locks that were ours. Writes leave locks alone.
 -- Assumes nothing.
-use mathlib.Core.Path.{_≡_, refl, sym, ap, _∙_}
-use mathlib.Core.Bool.{Bool, true, false}
+use mathlib.Core.Path.{_≡_, refl, ap, _∙_}
+use mathlib.Core.Bool.{false}
 use mathlib.Core.List.{List, [], _∷_, map}
 use mathlib.Core.Option.{none}
 use Prim.Native.Nat.{ℕ, zero, suc}
@@ -9,7 +9,6 @@ use lib.ListN.{getD, List·getD-map}
 use Rattle.target.specs.declared.NameNumber.{NameNumber}
 use Rattle.model.specs.declared.Lock.{Lock}
 use Rattle.model.specs.declared.Lock.the-variants.{Free, Foreign, Ours}
-use Rattle.model.specs.declared.Line.{Line}
 use Rattle.model.specs.declared.Loose.the-variants as loose
 use Rattle.model.specs.Store.{Store, Entry, noEntry, entryAt, linesOf, isLock, putLock, putLoose, putPacked, changeAt}
 use Rattle.model.specs.Read.{reading}

@@ -1,14 +1,14 @@
 -- Stores with the same refs, logs and setting, whatever their locks and rows, and what they share. Assumes nothing.
 use mathlib.Core.Path.{_≡_, refl, sym, ap, _∙_}
 use mathlib.Core.Bool.{Bool}
-use mathlib.Core.List.{List, [], _∷_, map}
+use mathlib.Core.List.{List, map}
 use Prim.Native.Nat.{ℕ}
 use lib.ListN.{length, getD, length-map, List·getD-map}
 use Rattle.target.specs.declared.NameNumber.{NameNumber}
 use Rattle.transaction.specs.declared.PackedRefs.{PackedRefs}
 use Rattle.transaction.specs.declared.Edit.{Edit}
 use Rattle.model.specs.declared.Lock.the-variants.{Free}
-use Rattle.model.specs.Basic.{any, collect}
+use Rattle.model.specs.Basic.{any}
 use Rattle.model.specs.Store.{Store, Entry, noEntry, noRow, count, entryAt, nameOf, linesOf, isPacked, putLock}
 use Rattle.model.specs.Rows.{nameIn, counts, countsAsUpdate, opens, isDirect, keepsLock}
 use Rattle.model.specs.Due.{Stamp, isLogged, dueLine, unsigned, dueLines}

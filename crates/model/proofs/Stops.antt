@@ -1,8 +1,8 @@
 -- What commit comes to: the writes that its committer and its allowance let it make, and nothing else. Assumes nothing.
 use mathlib.Core.Path.{_≡_, refl, sym, ap, _∙_}
 use mathlib.Core.Bool.{Bool, true, false, _&&_, cond}
-use mathlib.Core.List.{List, [], _∷_, map}
-use mathlib.Core.Option.{Option, none, some}
+use mathlib.Core.List.{List, [], _∷_}
+use mathlib.Core.Option.{none, some}
 use Prim.Native.Nat.{ℕ, zero, suc, _+_, _≤_, _<_, min}
 use native.Mathlib.Omega.{arith}
 use lib.ListN.{length, take}
@@ -11,8 +11,8 @@ use lib.Dec.{eqb}
 use Rattle.model.specs.Store.{Store}
 use Rattle.model.specs.Due.{Stamp}
 use Rattle.model.specs.Writes.{Write, writes, apply}
-use Rattle.model.specs.Commit.{Run, Stop, isLine, run}
-use Rattle.model.specs.Commit.Stop.{noCommitter, usedUp}
+use Rattle.model.specs.Commit.{Run, isLine, run}
+use Rattle.model.specs.Commit.Stop.{noCommitter}
 use Rattle.model.specs.Demand3.{beforeLine, commitWrites, applyAll, by}
 
 -- a log line needs a committer

@@ -1,13 +1,13 @@
 -- The values in rows: that the expected targets and the leaf-previous are fine, and that rows alike to fine ones, with such
 -- values, are fine. What a name reads is fine too. Assumes nothing.
 use mathlib.Core.Path.{_≡_, refl}
-use mathlib.Core.Bool.{Bool, true, false, not}
+use mathlib.Core.Bool.{Bool, true, false}
 use mathlib.Core.List.{List, [], _∷_}
 use Prim.Native.Nat.{ℕ, _<_, _^_}
 use native.Mathlib.Omega.{arith}
 use native.Mathlib.Decide.{decLt}
 use lib.ListN.{length, List·getD-eq-default}
-use lib.Dec.{ltb, leb}
+use lib.Dec.{ltb}
 use Rattle.target.specs.declared.OptionTarget.{OptionTarget}
 use Rattle.transaction.specs.declared.Edit.{Edit}
 use Rattle.transaction.specs.Change.{newValue, previousValue, messageOf}
@@ -18,8 +18,8 @@ use Rattle.model.specs.declared.Packed.the-variants as packed
 use Rattle.model.specs.Names.{isName}
 use Rattle.model.specs.Store.{Store, Entry, noRow, noEntry, count, entryOf, isId}
 use Rattle.model.specs.Read.{packedValue, looseOr, valueOf}
-use Rattle.model.specs.Rows.{nameIn, changeIn, rowAt, ancestors}
-use Rattle.model.specs.Fine.{fineOption, fineLoose, finePacked, fineEntry, fineParent, fineRow, Fine}
+use Rattle.model.specs.Rows.{nameIn, changeIn, rowAt}
+use Rattle.model.specs.Fine.{fineOption, fineLoose, finePacked, fineEntry, fineRow, Fine}
 use Rattle.model.specs.Prepare.{existing}
 use Rattle.model.proofs.Rules.{both-true, every-at}
 use Rattle.model.proofs.FineEdit.{FineEdit, row-edit}

@@ -1,13 +1,10 @@
 -- Small words that the definitions share.
 use mathlib.Core.Bool.{Bool, true, false, _&&_, _||_, cond}
 use mathlib.Core.List.{List, [], _∷_, _++_}
-use mathlib.Core.Option.{Option, none, some}
 use Prim.Native.Nat.{ℕ}
 use Prim.Native.Char.{code}
 use Prim.Native.String.{String}
 use Prim.Native.String as string
-use lib.ListN.{set}
-use lib.Dec.{eqb}
 pub use Rattle.word.specs.Tests.{every, Below}
 unfoldable pub use Rattle.word.specs.Tests.{below}
 

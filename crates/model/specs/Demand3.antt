@@ -1,7 +1,7 @@
 -- Demand 3, sentence by sentence: what is proved of every reached store with a transaction prepared, every committer and every
 -- stop. The proofs stand in proofs/Demand3.antt.
 use mathlib.Core.Path.{_≡_}
-use mathlib.Core.Bool.{Bool, true, false, cond}
+use mathlib.Core.Bool.{true, false, cond}
 use mathlib.Core.List.{List, [], _∷_, map}
 use mathlib.Core.Logic.{_⊎_}
 use mathlib.Core.Option.{Option, none, some}

@@ -1,7 +1,7 @@
 -- Numbers a caller gets: the number of a reply, and the places of the answer record that go with it.
 use mathlib.Core.Bool.{Bool, true, false}
 use mathlib.Core.List.{List, [], _∷_, _++_}
-use Prim.Native.Nat.{ℕ, zero, suc, _-_}
+use Prim.Native.Nat.{ℕ, _-_}
 use lib.ListN.{length, replicate}
 use Rattle.target.specs.declared.Target.{Target}
 use Rattle.target.specs.declared.OptionTarget.{OptionTarget}
@@ -12,7 +12,6 @@ use Rattle.transaction.specs.declared.ParentIndex.the-variants.{NoParent, Paren
 use Rattle.transaction.specs.declared.Edit.{Edit}
 use Rattle.transaction.specs.Change.{newValue, previousValue, expectedOf, logOf, forceOf, messageOf}
 use Rattle.transaction.specs.Fields.{changeByte, refLogByte, previousByte}
-use Rattle.model.specs.declared.Line.{Line}
 use Rattle.model.specs.declared.Refusal.{Refusal}
 use Rattle.model.specs.declared.Refusal.the-variants.{BadRegion, Malformed, NotRegistered, ReferenceCycle, TooManyRows, MultipleEdits, PackedTransactionAcquire, LockAcquire, DeleteReferenceMustExist, MustNotExist, MustExist, ReferenceOutOfDate, DeleteMustNotExist, LogFull, WrongState, BadName, NamesFull, WrongLock, BadLoad, NothingThere}
 use Rattle.model.specs.Store.{Store, entryAt}

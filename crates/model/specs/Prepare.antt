@@ -1,5 +1,5 @@
 -- Preparing, rule by rule: R2 to R5 and the refusals in order.
-use mathlib.Core.Bool.{Bool, true, false, _&&_, cond}
+use mathlib.Core.Bool.{Bool, _&&_, cond}
 use mathlib.Core.List.{List, [], _∷_, map}
 use mathlib.Core.Option.{Option, none, some}
 use Prim.Native.Nat.{ℕ, zero, suc, _+_}
@@ -10,7 +10,6 @@ use Rattle.target.specs.declared.OptionObject.the-variants.{NoId, Id}
 use Rattle.target.specs.declared.ObjectNumber.{ObjectNumber}
 use Rattle.target.specs.declared.OptionTarget.{OptionTarget}
 use Rattle.target.specs.declared.OptionTarget.the-variants.{Absent, Present}
-use Rattle.transaction.specs.declared.PreviousValue.{PreviousValue}
 use Rattle.transaction.specs.declared.PreviousValue.the-variants.{MustExistAndMatch}
 use Rattle.transaction.specs.declared.Change.{Change}
 use Rattle.transaction.specs.declared.Change.the-variants.{Update, Delete}

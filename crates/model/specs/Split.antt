@@ -1,5 +1,5 @@
 -- R1, the splits of symbolic refs, and the duplicates that are judged after it: the port of ext.rs.
-use mathlib.Core.Bool.{Bool, true, false, cond}
+use mathlib.Core.Bool.{true, false, cond}
 use mathlib.Core.List.{List, [], _∷_, _++_, map}
 use Prim.Native.Nat.{ℕ, zero, suc, _+_}
 use lib.ListN.{length}

@@ -1,6 +1,6 @@
 -- The store: what one region holds. Nothing here knows of bytes but a name's own.
 use mathlib.Core.Bool.{Bool, true, false, _&&_}
-use mathlib.Core.List.{List, [], _∷_}
+use mathlib.Core.List.{List, []}
 use mathlib.Core.Option.{Option, none, some}
 use Prim.Native.Nat.{ℕ, _^_}
 use lib.ListN.{length, getD, set}

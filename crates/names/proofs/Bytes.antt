@@ -1,6 +1,6 @@
 -- Turns and ends of the loops that compare byte strings, and what a part that is lent says of the whole. Assumes nothing.
 use mathlib.Core.Path.{_≡_, refl, sym, ap, _∙_}
-use mathlib.Core.Bool.{Bool, true, false, _&&_, or-false, and-false}
+use mathlib.Core.Bool.{Bool, true, false, or-false, and-false}
 use mathlib.Core.List.{List, [], _∷_}
 use Prim.Native.Nat.{ℕ, suc, _+_, _-_, _<_, _≤_}
 use native.Mathlib.Numerals.{add-one}

@@ -2,7 +2,6 @@
 use mathlib.Core.Path.{_≡_, refl, sym, ap, _∙_}
 use mathlib.Core.Bool.{Bool, true, false, not, _&&_, _||_}
 use mathlib.Core.List.{List, [], _∷_, _++_}
-use mathlib.Core.Option.{Option, none, some}
 use Prim.Native.Nat.{ℕ, _+_, _*_, _<_, _≤_, _^_}
 use native.Mathlib.Omega.{arith}
 use lib.ListN.{length}
@@ -13,10 +12,10 @@ use mir.Syntax.{w64}
 use Rattle.word.proofs.Tests.{both-true, every-at}
 use Rattle.model.specs.declared.Refusal.the-variants.{NotRegistered, BadName, NamesFull}
 use Rattle.model.specs.Names.{isSpecial, isRef, isName}
-use Rattle.model.specs.Store.{Store, count, entryAt, withEntries}
+use Rattle.model.specs.Store.{count, entryAt, withEntries}
 use Rattle.model.specs.Fine.{fineLoose, finePacked, fineEntry}
 use Rattle.model.specs.Reply.Call.{addName, nameBytes}
-use Rattle.model.specs.Reply.Reply.{done, refused}
+use Rattle.model.specs.Reply.Reply.{refused}
 use Rattle.model.specs.Reply.Given.{number, bytesOf}
 use Rattle.model.specs.Calls.{step}
 use Rattle.model.specs.Load.{numberFrom, newEntry, addedAs, nameAdded, bytesGiven}
@@ -28,7 +27,7 @@ use Rattle.steps.specs.declared.Found.{Found}
 use Rattle.steps.specs.declared.Found.the-variants.{Nowhere, At}
 use Rattle.steps.specs.Steps.{foundOption}
 use Rattle.answers.specs.declared.Verdict.the-variants.{Number, Bytes, Refused}
-use Rattle.calls.specs.Call.{replyTo, Replied, stretch, namePart}
+use Rattle.calls.specs.Call.{replyTo, Replied, namePart}
 use Rattle.calls.proofs.Replies.{good-laid, bad-region, replies, says-no, says-done, says-read}
 use Rattle.calls.proofs.Known.{known-far, known-near}
 

@@ -16,13 +16,13 @@ use Rattle.model.specs.declared.Loose.{Loose}
 use Rattle.model.specs.declared.Packed.{Packed}
 use Rattle.model.specs.declared.Line.{Line}
 use Rattle.model.specs.declared.Refusal.the-variants.{NotRegistered, NothingThere}
-use Rattle.model.specs.Store.{Store, count, entryAt, linesOf, rowsIn, noLine}
+use Rattle.model.specs.Store.{count, entryAt, linesOf, rowsIn, noLine}
 use Rattle.model.specs.Read.{looseOr, packedValue, reading}
 use Rattle.model.specs.Rows.{rowAt}
 use Rattle.model.specs.Reply.Call.{readName, readLine, readRow}
 use Rattle.model.specs.Reply.Given.{value, line, row}
 use Rattle.model.specs.Calls.{step, nameRead, lineRead, rowRead}
-use Rattle.region.specs.Region.{view, good, Laid}
+use Rattle.region.specs.Region.{view, good}
 use Rattle.steps.specs.declared.OptionLine.{OptionLine}
 use Rattle.steps.specs.declared.OptionLine.the-variants as optionLine
 use Rattle.steps.specs.Steps.{lineOption, lineAmong}

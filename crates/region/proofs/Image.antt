@@ -1,7 +1,7 @@
 -- The image of a store that fits: its length, its bytes; it is laid out so, and the store is seen in it. Assumes nothing.
 use mathlib.Core.Path.{_≡_, refl, ap, ap₂, _∙_}
 use mathlib.Core.Bool.{true, cond}
-use mathlib.Core.List.{List, [], _∷_, map}
+use mathlib.Core.List.{List, []}
 use mathlib.Core.Option.{Option, none, some, Option·getD}
 use Prim.Native.Nat.{ℕ, _≤_, _<_}
 use native.Mathlib.Omega.{arith}
@@ -13,12 +13,12 @@ use Rattle.word.specs.Cut.{flat, start}
 use Rattle.word.specs.Table.{table, tabulate}
 use Rattle.word.specs.Codec.{Codec, elements}
 use Rattle.word.specs.Text.{FineText, encText}
-use Rattle.word.proofs.Be.{length-be, val-be, bytes-be, bytes-append}
-use Rattle.word.proofs.Cut.{length-sized, cut-whole}
-use Rattle.word.proofs.Table.{length-table, tabulate-getD}
+use Rattle.word.proofs.Be.{val-be, bytes-be, bytes-append}
+use Rattle.word.proofs.Cut.{cut-whole}
+use Rattle.word.proofs.Table.{tabulate-getD}
 use Rattle.word.proofs.Codec.{forth-elements}
 use Rattle.word.proofs.Column.{column-forth, column-part, column-bytes}
-use Rattle.word.proofs.Text.{texts, length-text}
+use Rattle.word.proofs.Text.{texts}
 use Rattle.transaction.specs.declared.Edit.{Edit}
 use Rattle.transaction.specs.declared.PackedRefs.{PackedRefs}
 use Rattle.transaction.specs.declared.PackedRefs.the-variants.{DeletionsOnly, DeletionsAndNonSymbolicUpdates, DeletionsAndNonSymbolicUpdatesRemoveLooseSourceReference}
@@ -36,7 +36,8 @@ use Rattle.slots.specs.Values.{looseForm, packedForm, packedIn, lockForm, lockF
 use Rattle.slots.specs.Row.{rowForm}
 use Rattle.region.specs.Layout.{settingAt, packedLockAt, nameBase, nameWidth, looseBase, looseWidth, packedBase, packedWidth, lockBase, lockWidth, rowBase, rowWidth, lineBase, lineWidth, restSize, sizes}
 use Rattle.region.specs.Region.{settingByte, modeByte, sections, image, nameCount, lineCount, modeNumber, rowCount, entryIn, lineAt, rowAt, preparedFrom, view, layout}
-use Rattle.slots.proofs.Codecs.{looses, packeds, locks, lines, rows, wide-loose, wide-packed, wide-lock, wide-line, wide-row}
+use Rattle.slots.proofs.Codecs.{looses, packeds, locks, lines, rows}
+use Rattle.region.proofs.Sized.{sized, length-image}
 use Rattle.region.proofs.Fits.{FitsStore}
 use Rattle.region.proofs.Parts.{Parts, parts-layout}
 
@@ -44,33 +45,6 @@ use Rattle.region.proofs.Parts.{Parts, parts-layout}
 unfoldable pub names : Codec (List ℕ) (FineText 64)
 unfolding texts
 names = texts 64 (lit< tt)
-
--- ---- lengths
-
-cons : {a b : ℕ} {xs ys : List ℕ} → a ≡ b → xs ≡ ys → a ∷ xs ≡ b ∷ ys
-cons p q = ap₂ (λ (n : ℕ) (l : List ℕ). n ∷ l) p q
-
-pub sized : (s : Store) → map length (sections s) ≡ sizes
-unfolding sections
-sized s =
-    cons (length-be 1 1)
-    (cons (length-be 4 restSize)
-    (cons (length-be 1 (settingByte (s .setting)))
-    (cons (length-be 2 (count s))
-    (cons (length-be 2 (length (s .lines)))
-    (cons (length-be 1 (modeByte (s .prepared)))
-    (cons (length-be 1 (length (rowsIn (s .prepared))))
-    (cons (length-be 1 (lockByte (s .packedLock)))
-    (cons (length-table nameWidth (λ (e : Entry). encText 64 (e .name)) (λ e. length-text 64 (e .name)) 256 (s .entries))
-    (cons (length-table looseWidth (λ (e : Entry). looseForm (e .loose)) (λ e. wide-loose (e .loose)) 256 (s .entries))
-    (cons (length-table packedWidth (λ (e : Entry). packedForm (e .packed)) (λ e. wide-packed (e .packed)) 256 (s .entries))
-    (cons (length-table lockWidth (λ (e : Entry). lockForm (e .lock)) (λ e. wide-lock (e .lock)) 256 (s .entries))
-    (cons (length-table rowWidth rowForm wide-row 160 (rowsIn (s .prepared)))
-    (cons (length-table lineWidth lineForm wide-line 1024 (s .lines)) refl)))))))))))))
-
-pub length-image : (s : Store) → length (image s) ≡ 49549
-unfolding image
-length-image s = length-sized (sections s) sizes (sized s)
 
 -- ---- the small parts: their bytes are small, and say which part it is
 

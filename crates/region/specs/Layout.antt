@@ -1,6 +1,6 @@
 -- Layout version 1: where each part of a store stands in the region. Offsets and sizes are named here, once.
 use mathlib.Core.List.{List, [], _∷_}
-use Prim.Native.Nat.{ℕ, _+_, _*_}
+use Prim.Native.Nat.{ℕ}
 
 -- ---- the head
 

@@ -1,9 +1,9 @@
 -- The one image of a store, what a region is seen to hold, and which regions are good.
 use mathlib.Core.Path.{_≡_}
-use mathlib.Core.Bool.{Bool, true, false, _&&_, _||_, cond}
+use mathlib.Core.Bool.{Bool, true, _&&_, cond}
 use mathlib.Core.List.{List, [], _∷_}
 use mathlib.Core.Option.{Option, none, some, Option·getD}
-use Prim.Native.Nat.{ℕ, zero, suc, _+_, _*_, _≤_, _<_}
+use Prim.Native.Nat.{ℕ, zero, suc, _+_, _*_, _≤_}
 use lib.ListN.{length}
 use lib.Dec.{eqb, leb}
 use lib.Pow.{areBytes}
@@ -13,7 +13,6 @@ use Rattle.word.specs.Table.{table, tabulate}
 use Rattle.word.specs.Codec.{slot, okTable, isSome}
 use Rattle.word.specs.Text.{encText, decText, testText}
 use Rattle.word.specs.Tests.{every}
-use Rattle.transaction.specs.declared.PackedRefs.{PackedRefs}
 use Rattle.transaction.specs.declared.PackedRefs.the-variants.{DeletionsOnly}
 use Rattle.transaction.specs.declared.Edit.{Edit}
 use Rattle.transaction.specs.Fields.{packedRefsNumber, packedRefsOf, packedRefsOption}

@@ -1,5 +1,5 @@
 -- How a name, an object and a target stand in a record or an answer: numbers. Total on every number.
-use Prim.Native.Nat.{ℕ, zero, suc}
+use Prim.Native.Nat.{ℕ}
 use mathlib.Core.Bool.{cond}
 use lib.Dec.{eqb, ltb}
 use Rattle.target.specs.declared.OptionName.{OptionName}

@@ -1,7 +1,6 @@
 -- What src/transaction/mod.rs answers of a change.
 use mathlib.Core.Bool.{Bool, true, false}
 use Prim.Native.Nat.{ℕ}
-use Rattle.target.specs.declared.Target.{Target}
 use Rattle.target.specs.declared.OptionObject.{OptionObject}
 use Rattle.target.specs.declared.OptionObject.the-variants.{NoId}
 use Rattle.target.specs.declared.OptionTarget.{OptionTarget}

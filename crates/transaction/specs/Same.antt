@@ -1,5 +1,5 @@
 -- When two edits, and the parts of them, are the same: the Rust's derived equality.
-use mathlib.Core.Bool.{Bool, true, false, _&&_, Bool·beq}
+use mathlib.Core.Bool.{Bool, false, _&&_, Bool·beq}
 use lib.Dec.{eqb}
 use Rattle.target.specs.declared.Target.{Target}
 use Rattle.target.specs.Target.{same, sameName, sameOption}

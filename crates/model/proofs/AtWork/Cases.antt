@@ -1,13 +1,11 @@
 -- Tables of worked examples: how a store is made by calls, what is asked of it, and what must come back.
 use mathlib.Core.Path.{_≡_}
-use mathlib.Core.Bool.{Bool, true, false}
 use mathlib.Core.List.{List, [], _∷_, _++_, map}
 use mathlib.Core.Option.{Option, none, some}
 use Prim.Native.Nat.{ℕ, zero, suc, _+_, _*_}
 use Prim.Native.String.{String}
 use lib.ListN.{length}
 use Rattle.word.specs.Be.{be}
-use Rattle.target.specs.declared.NameNumber.{NameNumber}
 use Rattle.target.specs.declared.Target.{Target}
 use Rattle.target.specs.declared.Target.the-variants.{Object, Symbolic}
 use Rattle.target.specs.declared.OptionTarget.{OptionTarget}
@@ -18,12 +16,12 @@ use Rattle.model.specs.Store.{Store, empty}
 use Rattle.model.specs.Read.{reading}
 use Rattle.model.specs.Due.{Stamp}
 use Rattle.model.specs.Writes.{Write, PackedEdit, writes}
-use Rattle.model.specs.Writes.Write.{appendLine, writeLoose, removeLog, writePacked, removeLoose}
+use Rattle.model.specs.Writes.Write.{appendLine, writeLoose, removeLog, removeLoose}
 use Rattle.model.specs.Reply.{Call, Reply}
 use Rattle.model.specs.Reply.Reply.{done, stopped, refused}
 use Rattle.model.specs.Reply.Call.{start, addName, loadLoose, commit}
 use Rattle.model.specs.Calls.{step}
-use Rattle.model.specs.Numbers.{Answer, answer, answerOf}
+use Rattle.model.specs.Numbers.{Answer, answerOf}
 
 -- ---- the site of most examples: name 0 is `HEAD`, name 1 `refs/heads/aisle`, and HEAD links to the aisle
 

@@ -1,6 +1,6 @@
 -- The marked examples P1 to P11: one table, and the claim that every line of it comes out so.
 -- Names 0 `HEAD`, 1 `refs/heads/aisle`; HEAD loose links to 1; setting 1; mode 1.
-use mathlib.Core.Path.{_≡_, refl}
+use mathlib.Core.Path.{refl}
 use mathlib.Core.List.{List, [], _∷_, _++_}
 use Prim.Native.Nat.{ℕ, zero, suc, _+_}
 use Rattle.target.specs.declared.OptionTarget.the-variants.{Absent, Present}

@@ -1,12 +1,10 @@
 -- A second table, for what the marked examples leave: each refusal, the packing modes write by write, and the corners of the
 -- rules. The same claim: every line of it comes out so.
-use mathlib.Core.Path.{_≡_, refl}
-use mathlib.Core.List.{List, [], _∷_, _++_, map}
+use mathlib.Core.Path.{refl}
+use mathlib.Core.List.{List, [], _∷_, _++_}
 use Prim.Native.Nat.{ℕ, zero, suc, _+_, _/_, _%_}
 use lib.ListN.{replicate}
 use Rattle.target.specs.declared.OptionTarget.the-variants.{Absent, Present}
-use Rattle.model.specs.declared.Lock.the-variants.{Free}
-use Rattle.model.specs.declared.WriteReflog.the-variants.{Normal}
 use Rattle.model.specs.declared.Line.{Line}
 use Rattle.model.specs.Basic.{text}
 use Rattle.model.specs.Store.{Store, Entry, withEntries, withLines}

@@ -1,4 +1,3 @@
-use borrow.Author.Needs.{needs}
 use Rattle.steps.proofs.Laws.{packed-beside-none, packed-none, packed-null, packed-unpackable, packed-object, packed-other}
 use Rattle.steps.proofs.packed_of.Statement.{statement}
 use Rattle.steps.proofs.packed_of.Tie as tie

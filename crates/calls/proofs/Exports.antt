@@ -1,0 +1,147 @@
+-- What specs/Exports.antt states, proved. Assumes nothing.
+use mathlib.Core.Path.{_≡_, refl, sym, ap, _∙_}
+use mathlib.Core.Bool.{Bool, true, false, cond}
+use mathlib.Core.List.{List}
+use mathlib.Core.Option.{Option, none, some}
+use Prim.Native.Nat.{ℕ}
+use native.Mathlib.Omega.{arith}
+use lib.ListN.{length}
+use lib.Dec.{eqb}
+use borrow.Author.Tests.{eq-eqb}
+use Rattle.model.specs.declared.WriteReflog.{WriteReflog}
+use Rattle.model.specs.declared.WriteReflog.the-variants.{Disable}
+use Rattle.model.specs.declared.Refusal.the-variants.{BadRegion, Malformed}
+use Rattle.model.specs.Store.{Store, empty}
+use Rattle.model.specs.Commit.Stop.{noCommitter, usedUp}
+use Rattle.model.specs.Outcome.{orRefuse}
+use Rattle.model.specs.Reply.{Call, Reply, _>>=_}
+use Rattle.model.specs.Reply.Call.{start, addName, nameBytes, loadLoose, loadPacked, lockName, unlockName, lockPacked, unlockPacked, prepare, commit, rollback, readName, readLine, readRow}
+use Rattle.model.specs.Reply.Reply.{done, stopped, refused}
+use Rattle.model.specs.Reply.Given.{nothing}
+use Rattle.model.specs.Load.{settingOf, started}
+use Rattle.model.specs.Calls.{step}
+use Rattle.model.specs.Numbers.{answerOf, refusalAnswer}
+use Rattle.model.specs.Reached.{Reached, leaves}
+use Rattle.model.specs.Reached.Reached.{begun, after}
+use Rattle.model.proofs.Kept.{reached-sound}
+use Rattle.region.specs.Layout.{regionSize}
+use Rattle.region.specs.Region.{image, decode}
+use Rattle.region.proofs.Sized.{length-image}
+use Rattle.region.proofs.Decode.{decoded, decode-image}
+use Rattle.calls.specs.Call.{stepOn, replyTo, regionAfter, Out, outOf, call, Did}
+use Rattle.calls.specs.Exports.{Determined, PartDetermined, Unchanged, GotReached}
+use Rattle.calls.specs.Exports.Got.{begun as got·begun, after as got·after}
+
+-- ---- determined
+
+pub determined : Determined
+determined c r a n n′ a₁ a₂ r₁ r₂ d e = (d .code ∙ sym (e .code), d .answer ∙ sym (e .answer), d .region ∙ sym (e .region))
+
+pub part-determined : PartDetermined
+part-determined n r p q d e = d ∙ sym e
+
+-- the record's size decides
+abbrev chosen : Bool → Reply → List ℕ → List ℕ → Out
+unfolding outOf
+chosen b reply r a = cond b (outOf reply r) (record { code = 1; answer = a; region = r })
+
+-- ---- a refusal changes no byte of the region
+
+pub unchanged : Unchanged
+unfolding call outOf answerOf
+unchanged c r a n a′ r′ d not-done not-16 not-17 = go (eqb (length a) 128) (replyTo c r) (d .code) (d .region)
+  where
+    go : (b : Bool) (reply : Reply) → n ≡ chosen b reply r a .code → r′ ≡ chosen b reply r a .region → r′ ≡ r
+    go false reply e f = f
+    go true (done s given) e f = absurd (not-done e)
+    go true (stopped noCommitter s made) e f = absurd (not-16 e)
+    go true (stopped usedUp s made) e f = absurd (not-17 e)
+    go true (refused x) e f = f
+
+-- ---- what is got decodes to a reached store
+
+-- a region that decodes has the size that start asks for
+decoded-size : (r : List ℕ) (s : Store) → decode r ≡ some s → length r ≡ regionSize
+decoded-size r s e = ap length (sym (decoded r s e .1)) ∙ length-image s
+
+-- every call finds the store that is decoded; start does not look at it
+replies-to : (c : Call) (r : List ℕ) (s : Store) → decode r ≡ some s → replyTo c r ≡ step c s
+unfolding replyTo step
+replies-to (start k) r s e = rw (eq-eqb (length r) regionSize (decoded-size r s e))
+replies-to (addName bytes) r s e = rw e
+replies-to (nameBytes n) r s e = rw e
+replies-to (loadLoose n kind x) r s e = rw e
+replies-to (loadPacked n kind x) r s e = rw e
+replies-to (lockName n) r s e = rw e
+replies-to (unlockName n) r s e = rw e
+replies-to lockPacked r s e = rw e
+replies-to unlockPacked r s e = rw e
+replies-to (prepare list mode) r s e = rw e
+replies-to (commit committer allowance) r s e = rw e
+replies-to rollback r s e = rw e
+replies-to (readName n) r s e = rw e
+replies-to (readLine n place) r s e = rw e
+replies-to (readRow place) r s e = rw e
+
+left-image : (reply : Reply) (r : List ℕ) (s : Store) → r ≡ image s → regionAfter reply r ≡ image (leaves reply s)
+left-image (done t given) r s e = refl
+left-image (stopped why t made) r s e = refl
+left-image (refused x) r s e = e
+
+reached-image : (r : List ℕ) (s : Store) → Reached s → r ≡ image s → (t : Store) × (decode r ≡ some t) × Reached t
+reached-image r s reached e = (s, ap decode e ∙ decode-image s (reached-sound s reached .fine), reached)
+
+-- one call more
+goes-on : (c : Call) (r a : List ℕ) (n : ℕ) (a′ r′ : List ℕ) (s : Store) → decode r ≡ some s → Reached s → Did (call c r a) n a′ r′
+    → (t : Store) × (decode r′ ≡ some t) × Reached t
+unfolding call outOf
+goes-on c r a n a′ r′ s e reached d = go (eqb (length a) 128) (d .region)
+  where
+    go : (b : Bool) → r′ ≡ chosen b (replyTo c r) r a .region → (t : Store) × (decode r′ ≡ some t) × Reached t
+    go false f = (s, ap decode f ∙ e, reached)
+    go true f =
+        reached-image r′ (leaves (step c s) s) (after reached c)
+        (f ∙ ap (λ (reply : Reply). regionAfter reply r) (replies-to c r s e) ∙ left-image (step c s) r s (sym (decoded r s e .1)))
+
+-- ---- start
+
+abbrev startReply : Bool → Option WriteReflog → Reply
+startReply false o = refused BadRegion
+startReply true none = refused Malformed
+startReply true (some setting) = done (empty setting) nothing
+
+start-replies : (k : ℕ) (r : List ℕ) → replyTo (start k) r ≡ startReply (eqb (length r) regionSize) (settingOf k)
+unfolding replyTo step started
+start-replies k r = go (eqb (length r) regionSize)
+  where
+    known : (o : Option WriteReflog) → (orRefuse Malformed o >>= λ setting. done (empty setting) nothing) ≡ startReply true o
+    known none = refl
+    known (some setting) = refl
+
+    go : (b : Bool) → stepOn (start k) (cond b (some (empty Disable)) none) ≡ startReply b (settingOf k)
+    go false = refl
+    go true = known (settingOf k)
+
+starts : (k : ℕ) (r a a′ r′ : List ℕ) → Did (call (start k) r a) 0 a′ r′ → (t : Store) × (decode r′ ≡ some t) × Reached t
+unfolding call outOf answerOf refusalAnswer
+starts k r a a′ r′ d = go (eqb (length a) 128) (eqb (length r) regionSize) (settingOf k) code region
+  where
+    code : 0 ≡ chosen (eqb (length a) 128) (startReply (eqb (length r) regionSize) (settingOf k)) r a .code
+    code = rw (← start-replies k r) (d .code)
+
+    region : r′ ≡ chosen (eqb (length a) 128) (startReply (eqb (length r) regionSize) (settingOf k)) r a .region
+    region = rw (← start-replies k r) (d .region)
+
+    go : (b sized : Bool) (o : Option WriteReflog) → 0 ≡ chosen b (startReply sized o) r a .code → r′ ≡ chosen b (startReply sized o) r a .region
+        → (t : Store) × (decode r′ ≡ some t) × Reached t
+    go false sized o e f = absurd (omega arith)
+    go true false o e f = absurd (omega arith)
+    go true true none e f = absurd (omega arith)
+    go true true (some setting) e f = reached-image r′ (empty setting) (begun setting) f
+
+-- ---- any calls
+
+pub got-reached : GotReached
+got-reached r (got·begun k r₀ a a′ _ d) = starts k r₀ a a′ r d
+got-reached r (got·after {r = r₀} g c n a a′ _ d) =
+    let h = got-reached r₀ g in goes-on c r₀ a n a′ r (h .0) (h .1) (h .2) d
