@@ -15,10 +15,11 @@ pub fn lock_name(region: &mut [u8], name: u64) -> Verdict
         return Verdict::Refused(Refusal::NotRegistered(name));
     }
     let n = name as usize;
-    let Turned::Becomes(lock) = steps::place_on(region::lock_at(region, n)) else {
+    let lock = region::lock_at(region, n);
+    let Turned::Becomes(placed) = steps::place_on(lock) else {
         return Verdict::Refused(Refusal::WrongLock);
     };
-    region::put_lock_at(region, n, lock);
+    region::put_lock_at(region, n, placed);
     Verdict::Done
 }
 
@@ -32,10 +33,11 @@ pub fn unlock_name(region: &mut [u8], name: u64) -> Verdict
         return Verdict::Refused(Refusal::NotRegistered(name));
     }
     let n = name as usize;
-    let Turned::Becomes(lock) = steps::lift_from(region::lock_at(region, n)) else {
+    let lock = region::lock_at(region, n);
+    let Turned::Becomes(lifted) = steps::lift_from(lock) else {
         return Verdict::Refused(Refusal::WrongLock);
     };
-    region::put_lock_at(region, n, lock);
+    region::put_lock_at(region, n, lifted);
     Verdict::Done
 }
 
@@ -45,10 +47,11 @@ pub fn lock_packed(region: &mut [u8]) -> Verdict
     if !good::is_good(region) {
         return Verdict::Refused(Refusal::BadRegion);
     }
-    let Turned::Becomes(lock) = steps::place_on(region::packed_lock(region)) else {
+    let table = region::packed_lock(region);
+    let Turned::Becomes(placed) = steps::place_on(table) else {
         return Verdict::Refused(Refusal::WrongLock);
     };
-    region::put_packed_lock(region, lock);
+    region::put_packed_lock(region, placed);
     Verdict::Done
 }
 
@@ -58,9 +61,10 @@ pub fn unlock_packed(region: &mut [u8]) -> Verdict
     if !good::is_good(region) {
         return Verdict::Refused(Refusal::BadRegion);
     }
-    let Turned::Becomes(lock) = steps::lift_from(region::packed_lock(region)) else {
+    let table = region::packed_lock(region);
+    let Turned::Becomes(lifted) = steps::lift_from(table) else {
         return Verdict::Refused(Refusal::WrongLock);
     };
-    region::put_packed_lock(region, lock);
+    region::put_packed_lock(region, lifted);
     Verdict::Done
 }

@@ -16,8 +16,9 @@ pub fn read_name(region: &[u8], name: u64) -> Verdict
         return Verdict::Refused(Refusal::NotRegistered(name));
     }
     let n = name as usize;
-    let value = steps::value_of(region::loose_at(region, n), region::packed_at(region, n));
-    Verdict::Value(value)
+    let loose = region::loose_at(region, n);
+    let packed = region::packed_at(region, n);
+    Verdict::Value(steps::value_of(loose, packed))
 }
 
 pub fn read_line(region: &[u8], name: u64, place: u64) -> Verdict

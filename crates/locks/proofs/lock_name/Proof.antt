@@ -29,8 +29,8 @@ lock-at-requires c κs = (search good-laid, search near)
 place-on-requires : tie.Need-place-on-requires
 place-on-requires c κs = search needs
 
-enum-known-lock : tie.Need-enum-known-lock
-enum-known-lock c = search needs
+enum-known-placed : tie.Need-enum-known-placed
+enum-known-placed c = search needs
 
 enum-told : tie.Need-enum-told
 enum-told c = search needs
@@ -62,7 +62,7 @@ lock-name-spec =
     returns-2
     lock-at-requires
     place-on-requires
-    enum-known-lock
+    enum-known-placed
     enum-told
     same-length-3
     returns-3

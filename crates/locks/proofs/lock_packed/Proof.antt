@@ -19,8 +19,8 @@ packed-lock-requires c κs = search good-laid
 place-on-requires : tie.Need-place-on-requires
 place-on-requires c κs = search needs
 
-enum-known-lock : tie.Need-enum-known-lock
-enum-known-lock c = search needs
+enum-known-placed : tie.Need-enum-known-placed
+enum-known-placed c = search needs
 
 enum-told : tie.Need-enum-told
 enum-told c = search needs
@@ -49,7 +49,7 @@ lock-packed-spec =
     returns
     packed-lock-requires
     place-on-requires
-    enum-known-lock
+    enum-known-placed
     enum-told
     same-length-2
     returns-2

@@ -29,8 +29,8 @@ lock-at-requires c κs = (search good-laid, search near)
 lift-from-requires : tie.Need-lift-from-requires
 lift-from-requires c κs = search needs
 
-enum-known-lock : tie.Need-enum-known-lock
-enum-known-lock c = search needs
+enum-known-lifted : tie.Need-enum-known-lifted
+enum-known-lifted c = search needs
 
 enum-told : tie.Need-enum-told
 enum-told c = search needs
@@ -62,7 +62,7 @@ unlock-name-spec =
     returns-2
     lock-at-requires
     lift-from-requires
-    enum-known-lock
+    enum-known-lifted
     enum-told
     same-length-3
     returns-3

@@ -19,8 +19,8 @@ packed-lock-requires c κs = search good-laid
 lift-from-requires : tie.Need-lift-from-requires
 lift-from-requires c κs = search needs
 
-enum-known-lock : tie.Need-enum-known-lock
-enum-known-lock c = search needs
+enum-known-lifted : tie.Need-enum-known-lifted
+enum-known-lifted c = search needs
 
 enum-told : tie.Need-enum-told
 enum-told c = search needs
@@ -49,7 +49,7 @@ unlock-packed-spec =
     returns
     packed-lock-requires
     lift-from-requires
-    enum-known-lock
+    enum-known-lifted
     enum-told
     same-length-2
     returns-2
