@@ -190,30 +190,23 @@ fn row_places(row: Edit) -> [u64; 16]
     let leaf = row.leaf_referent_previous_oid;
     let expected = change.previous_value();
     let new = change.new_value();
-    let kind = change.byte();
-    let log = log_byte(change);
-    let force = force_flag(change);
-    let message = message_of(change);
-    let previous = expected_byte(change);
     let from_kind = expected.byte();
     let from = expected.number();
     let to_kind = new.byte();
     let to = new.number();
-    let has = parent_flag(parent);
-    let place = parent_place(parent);
     [
         name.0 as u64,
-        kind,
-        log,
-        force,
-        message,
-        previous,
+        change.byte(),
+        log_byte(change),
+        force_flag(change),
+        message_of(change),
+        expected_byte(change),
         from_kind,
         from,
         to_kind,
         to,
-        has,
-        place,
+        parent_flag(parent),
+        parent_place(parent),
         leaf.0,
         0,
         0,

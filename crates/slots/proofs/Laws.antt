@@ -3,7 +3,7 @@ use mathlib.Core.Path.{_≡_, refl, sym, ap, ap₂, _∙_}
 use mathlib.Core.Bool.{Bool, true, false, not, _&&_}
 use mathlib.Core.List.{List, [], _∷_, _++_, append-nil}
 use mathlib.Core.Option.{Option, none, some}
-use Prim.Native.Nat.{ℕ, zero, suc, _<_, _≤_, _^_}
+use Prim.Native.Nat.{ℕ, zero, suc, _+_, _-_, _<_, _≤_, _^_}
 use native.Mathlib.Omega.{arith}
 use lib.ListN.{length}
 use lib.Seq.{take-all}
@@ -29,8 +29,9 @@ use Rattle.transaction.specs.declared.OptionPrevious.the-variants.{NoPrevious, 
 use Rattle.transaction.specs.declared.Change.{Change}
 use Rattle.transaction.specs.declared.Change.the-variants.{Delete}
 use Rattle.transaction.specs.declared.RefEdit.{RefEdit}
+use Rattle.transaction.specs.declared.Edit.{Edit}
 use Rattle.transaction.specs.declared.ParentIndex.{ParentIndex}
-use Rattle.transaction.specs.Fields.{refLogOf, previousOf}
+use Rattle.transaction.specs.Fields.{refLogOf, refLogOption, previousOf, previousOption}
 use Rattle.transaction.specs.declared.ParentIndex.the-variants.{NoParent}
 use Rattle.model.specs.declared.Loose.{Loose}
 use Rattle.model.specs.declared.Loose.the-variants as loose
@@ -39,8 +40,8 @@ use Rattle.model.specs.declared.Packed.the-variants as packed
 use Rattle.model.specs.declared.Lock.{Lock}
 use Rattle.model.specs.Store.{isId, lockByte}
 use Rattle.slots.specs.declared.OptionLock.{OptionLock}
-use Rattle.slots.specs.Values.{looseFrom, looseForm, looseKind, looseNumber, packedNumber, packedForm, lockFrom, lockIn, lockOption, lockForm}
-use Rattle.model.specs.EditList.{flagOf, changeOf}
+use Rattle.slots.specs.Values.{looseFrom, looseForm, looseKind, looseNumber, packedNumber, packedForm, lockFrom, lockIn, lockOption, lockForm, lineFrom, lineWidths}
+use Rattle.model.specs.EditList.{_>>=_, flagOf, changeOf}
 use Rattle.slots.specs.declared.OptionOptionTarget.{OptionOptionTarget}
 use Rattle.slots.specs.declared.OptionOptionTarget.the-variants.{NoTarget}
 use Rattle.slots.specs.declared.OptionOptionTarget.the-variants as optionTarget
@@ -49,8 +50,24 @@ use Rattle.slots.specs.declared.OptionParent.the-variants.{NoPlace, Plac
 use Rattle.slots.specs.declared.OptionChange.{OptionChange}
 use Rattle.slots.specs.declared.OptionChange.the-variants.{NoChange}
 use Rattle.slots.specs.declared.OptionChange.the-variants as optionChange
-use Rattle.slots.specs.declared.RowNumbers.{RowNumbers}
-use Rattle.slots.specs.Row.{targetFrom, targetOption, parentFrom, parentOption, changeOption, numbers, rowWidths, rowFrom}
+use Rattle.slots.specs.Row.{targetFrom, targetIn, targetOption, expectedIn, parentFrom, parentIn, parentOption, changeIn, changeOption, rowFrom, rowIn}
+
+-- ---- numbers read
+
+-- the part from a up to a + w is w bytes wide
+pub lent : (a w x : ℕ) (s : List ℕ) → x ≡ val (cut a (a + w - a) s) → x ≡ val (cut a w s)
+lent a w x s e = let h : a + w - a ≡ w = omega arith in e ∙ ap (λ (k : ℕ). val (cut a k s)) h
+
+pub line-in : (s : List ℕ) (x0 x1 x2 x3 x4 : ℕ) → x0 ≡ val (cut 0 2 s) → x1 ≡ val (cut 2 8 s) → x2 ≡ val (cut 10 8 s)
+    → x3 ≡ val (cut 18 2 s) → x4 ≡ val (cut 20 2 s)
+    → record {
+      name = record { 0 = x0 };
+      previous = record { 0 = x1 };
+      new = record { 0 = x2 };
+      committer = x3;
+      message = x4;
+    } ≡ lineFrom (unfields 0 lineWidths s)
+line-in s x0 x1 x2 x3 x4 e0 e1 e2 e3 e4 = rw (e0, e1, e2, e3, e4)
 
 -- ---- a loose value of its numbers
 
@@ -196,7 +213,7 @@ change-other (suc zero) log force expected new message a b = absurd (a refl)
 change-other (suc (suc zero)) log force expected new message a b = absurd (b refl)
 change-other (suc (suc (suc k))) log force expected new message a b = refl
 
--- ---- a row of its numbers: where reading it stops, and what is read
+-- ---- a row in its slot: where reading it stops, and what is read
 
 flag-past : (x : ℕ) → 1 < x → flagOf x ≡ none
 flag-past zero h = absurd (omega arith)
@@ -208,69 +225,109 @@ flag-is zero h = refl
 flag-is (suc zero) h = refl
 flag-is (suc (suc x)) h = absurd (omega arith)
 
+later : {C D E F : Type 0} (x : Option D) (n : Option C) (c : D → C → Option E) (k : E → Option F)
+    → (x >>= λ x. n >>= λ n. c x n >>= k) ≡ ((x >>= λ x. n >>= λ n. c x n) >>= k)
+later none n c k = refl
+later (some x) none c k = refl
+later (some x) (some n) c k = refl
+
+-- the chain of a row's steps, with the change's own steps drawn together
+chain : {A B C D E F : Type 0} (l : Option A) (b : Option B) (w : Option C) (x : C → Option D) (n : Option C)
+    (c : A → B → D → C → Option E) (k : E → Option F)
+    → (do
+      l ← l
+      b ← b
+      w ← w
+      x ← x w
+      n ← n
+      c ← c l b x n
+      k c)
+    ≡ (do
+      c ← do
+        l ← l
+        b ← b
+        x ← do
+          w ← w
+          x w
+        n ← n
+        c l b x n
+      k c)
+chain none b w x n c k = refl
+chain (some l) none w x n c k = refl
+chain (some l) (some b) none x n c k = refl
+chain (some l) (some b) (some w) x n c k = later (x w) n (c l b) k
+
+-- what follows the change
+abbrev rest : List ℕ → Change → Option Edit
+rest s c = do
+  p ← parentIn s
+  some
+      (record {
+        update = record { change = c; name = record { 0 = val (cut 0 2 s) }; deref = false };
+        «parent_index» = p;
+        «leaf_referent_previous_oid» = record { 0 = val (cut 28 8 s) };
+      })
+
+-- a row is its change, and then its parent
+row-parts : (s : List ℕ) → rowIn s ≡ (changeIn s >>= rest s)
+unfolding rowIn rowFrom changeIn expectedIn targetIn parentIn
+row-parts s =
+    chain (refLogOption (refLogOf (val (cut 3 1 s)))) (flagOf (val (cut 4 1 s))) (targetFrom (val (cut 8 1 s)) (val (cut 9 8 s)))
+    (λ w. previousOption (previousOf (val (cut 7 1 s)) w)) (targetFrom (val (cut 17 1 s)) (val (cut 18 8 s)))
+    (λ l b x n. changeOf (val (cut 2 1 s)) l b x n (val (cut 5 2 s))) (rest s)
+
+pub target-in : (s : List ℕ) (a k x : ℕ) (o : OptionOptionTarget) → k ≡ val (cut a 1 s) → x ≡ val (cut (a + 1) 8 s)
+    → targetOption o ≡ targetFrom k x → targetOption o ≡ targetIn a s
+unfolding targetIn
+target-in s a k x o e f h = h ∙ ap₂ targetFrom e f
+
+pub no-expected : (s : List ℕ) (o : OptionOptionTarget) → targetOption o ≡ targetIn 8 s → o ≡ NoTarget → none ≡ expectedIn s
+unfolding expectedIn
+no-expected s o e h = rw (← e, h)
+
+pub expected-in : (s : List ℕ) (o : OptionOptionTarget) (was : OptionTarget) (k : ℕ) (p : OptionPrevious)
+    → targetOption o ≡ targetIn 8 s → o ≡ optionTarget.Target was → k ≡ val (cut 7 1 s) → p ≡ previousOf k was → previousOption p ≡ expectedIn s
+unfolding expectedIn
+expected-in s o was k p e h f g = rw (← e, h, ← f, ← g)
+
 -- `o` is the answer of each call in turn
-pub row-no-log : (n : RowNumbers) (o : OptionRefLog) → o ≡ refLogOf (n .log) → o ≡ refLog.NoRefLog → none ≡ rowFrom (numbers n)
-unfolding rowFrom
-row-no-log n o e h = rw (← e, h)
+module _ (s : List ℕ) (k : ℕ) (o : OptionRefLog) (ek : k ≡ val (cut 3 1 s)) (e : o ≡ refLogOf k) where
+  pub no-log : o ≡ refLog.NoRefLog → none ≡ changeIn s
+  unfolding changeIn
+  no-log h = rw (← ek, ← e, h)
 
-module _ (n : RowNumbers) (o : OptionRefLog) (log : RefLog) (e : o ≡ refLogOf (n .log)) (h : o ≡ refLog.RefLog log) where
-  pub row-no-force : 1 < n .force → none ≡ rowFrom (numbers n)
-  unfolding rowFrom
-  row-no-force f = rw (← e, h, flag-past (n .force) f)
+  module _ (log : RefLog) (h : o ≡ refLog.RefLog log) (force : ℕ) (ef : force ≡ val (cut 4 1 s)) where
+    pub no-force : 1 < force → none ≡ changeIn s
+    unfolding changeIn
+    no-force f = rw (← ek, ← e, h, ← ef, flag-past force f)
 
-  module _ (f : n .force ≤ 1) where
-    pub row-no-was : (o2 : OptionOptionTarget) → targetOption o2 ≡ targetFrom (n .«was_kind») (n .was) → o2 ≡ NoTarget → none ≡ rowFrom (numbers n)
-    unfolding rowFrom
-    row-no-was o2 e2 h2 = rw (← e, h, flag-is (n .force) f, ← e2, h2)
+    module _ (f : force ≤ 1) (o2 : OptionPrevious) (e2 : previousOption o2 ≡ expectedIn s) where
+      pub no-previous : o2 ≡ NoPrevious → none ≡ changeIn s
+      unfolding changeIn
+      no-previous h2 = rw (← ek, ← e, h, ← ef, flag-is force f, ← e2, h2)
 
-    module _ (o2 : OptionOptionTarget) (was : OptionTarget) (e2 : targetOption o2 ≡ targetFrom (n .«was_kind») (n .was)) (h2 : o2 ≡ optionTarget.Target was) where
-      pub row-no-expected : (o3 : OptionPrevious) → o3 ≡ previousOf (n .expected) was → o3 ≡ NoPrevious → none ≡ rowFrom (numbers n)
-      unfolding rowFrom
-      row-no-expected o3 e3 h3 = rw (← e, h, flag-is (n .force) f, ← e2, h2, ← e3, h3)
+      module _ (expected : PreviousValue) (h2 : o2 ≡ Previous expected) (o3 : OptionOptionTarget)
+          (e3 : targetOption o3 ≡ targetIn 17 s) where
+        pub no-new : o3 ≡ NoTarget → none ≡ changeIn s
+        unfolding changeIn
+        no-new h3 = rw (← ek, ← e, h, ← ef, flag-is force f, ← e2, h2, ← e3, h3)
 
-      module _ (o3 : OptionPrevious) (expected : PreviousValue) (e3 : o3 ≡ previousOf (n .expected) was) (h3 : o3 ≡ Previous expected) where
-        pub row-no-new : (o4 : OptionOptionTarget) → targetOption o4 ≡ targetFrom (n .«new_kind») (n .new) → o4 ≡ NoTarget → none ≡ rowFrom (numbers n)
-        unfolding rowFrom
-        row-no-new o4 e4 h4 = rw (← e, h, flag-is (n .force) f, ← e2, h2, ← e3, h3, ← e4, h4)
+        pub change-in : (new : OptionTarget) (kind message : ℕ) (c : OptionChange) → o3 ≡ optionTarget.Target new
+            → kind ≡ val (cut 2 1 s) → message ≡ val (cut 5 2 s)
+            → changeOption c ≡ changeOf kind log (eqb force 1) expected new message → changeOption c ≡ changeIn s
+        unfolding changeIn
+        change-in new kind message c h3 e4 e5 e6 =
+            rw (← ek, ← e, h, ← ef, flag-is force f, ← e2, h2, ← e3, h3, ← e4, ← e5) e6
 
-        module _ (o4 : OptionOptionTarget) (new : OptionTarget) (e4 : targetOption o4 ≡ targetFrom (n .«new_kind») (n .new)) (h4 : o4 ≡ optionTarget.Target new) where
-          pub row-no-change : (o5 : OptionChange) → changeOption o5 ≡ changeOf (n .kind) log (eqb (n .force) 1) expected new (n .message) → o5 ≡ NoChange
-              → none ≡ rowFrom (numbers n)
-          unfolding rowFrom
-          row-no-change o5 e5 h5 = rw (← e, h, flag-is (n .force) f, ← e2, h2, ← e3, h3, ← e4, h4, ← e5, h5)
+module _ (s : List ℕ) (o : OptionChange) (e : changeOption o ≡ changeIn s) where
+  pub row-no-change : o ≡ NoChange → none ≡ rowIn s
+  row-no-change h = rw (row-parts s, ← e, h)
 
-          module _ (o5 : OptionChange) (change : Change) (e5 : changeOption o5 ≡ changeOf (n .kind) log (eqb (n .force) 1) expected new (n .message))
-              (h5 : o5 ≡ optionChange.Change change) where
-            pub row-no-parent : (o6 : OptionParent) → parentOption o6 ≡ parentFrom (n .«has_parent») (n .parent) → o6 ≡ NoPlace → none ≡ rowFrom (numbers n)
-            unfolding rowFrom
-            row-no-parent o6 e6 h6 = rw (← e, h, flag-is (n .force) f, ← e2, h2, ← e3, h3, ← e4, h4, ← e5, h5, ← e6, h6)
+  module _ (change : Change) (h : o ≡ optionChange.Change change) (o2 : OptionParent) (e2 : parentOption o2 ≡ parentIn s) where
+    pub row-no-parent : o2 ≡ NoPlace → none ≡ rowIn s
+    row-no-parent h2 = rw (row-parts s, ← e, h, ← e2, h2)
 
-            pub row-is : (o6 : OptionParent) (parent : ParentIndex) (u : RefEdit) → parentOption o6 ≡ parentFrom (n .«has_parent») (n .parent) → o6 ≡ Place parent
-                → u ≡ record { change = change; name = record { 0 = n .name }; deref = false }
-                → some (record { update = u; «parent_index» = parent; «leaf_referent_previous_oid» = record { 0 = n .leaf } }) ≡ rowFrom (numbers n)
-            unfolding rowFrom
-            row-is o6 parent u e6 h6 g = rw (← e, h, flag-is (n .force) f, ← e2, h2, ← e3, h3, ← e4, h4, ← e5, h5, ← e6, h6, g)
-
--- ---- the thirteen numbers read
-
-pub numbers-are : (s : List ℕ) (x0 x1 x2 x3 x4 x5 x6 x7 x8 x9 x10 x11 x12 : ℕ) → x0 ≡ val (cut 0 2 s) → x1 ≡ val (cut 2 1 s) → x2 ≡ val (cut 3 1 s)
-    → x3 ≡ val (cut 4 1 s) → x4 ≡ val (cut 5 2 s) → x5 ≡ val (cut 7 1 s) → x6 ≡ val (cut 8 1 s) → x7 ≡ val (cut 9 8 s) → x8 ≡ val (cut 17 1 s)
-    → x9 ≡ val (cut 18 8 s) → x10 ≡ val (cut 26 1 s) → x11 ≡ val (cut 27 1 s) → x12 ≡ val (cut 28 8 s)
-    → numbers
-    (record {
-      name = x0;
-      kind = x1;
-      log = x2;
-      force = x3;
-      message = x4;
-      expected = x5;
-      «was_kind» = x6;
-      was = x7;
-      «new_kind» = x8;
-      new = x9;
-      «has_parent» = x10;
-      parent = x11;
-      leaf = x12;
-    }) ≡ unfields 0 rowWidths s
-numbers-are s x0 x1 x2 x3 x4 x5 x6 x7 x8 x9 x10 x11 x12 e0 e1 e2 e3 e4 e5 e6 e7 e8 e9 e10 e11 e12 =
-    rw (e0, e1, e2, e3, e4, e5, e6, e7, e8, e9, e10, e11, e12)
+    pub row-in : (parent : ParentIndex) (name leaf : ℕ) (u : RefEdit) → o2 ≡ Place parent → name ≡ val (cut 0 2 s)
+        → leaf ≡ val (cut 28 8 s) → u ≡ record { change = change; name = record { 0 = name }; deref = false }
+        → some (record { update = u; «parent_index» = parent; «leaf_referent_previous_oid» = record { 0 = leaf } }) ≡ rowIn s
+    row-in parent name leaf u h2 en el eu = rw (row-parts s, ← e, h, ← e2, h2, eu, en, el)

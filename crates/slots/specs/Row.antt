@@ -3,9 +3,10 @@ use mathlib.Core.Path.{_≡_}
 use mathlib.Core.Bool.{Bool, true, false, _&&_, cond}
 use mathlib.Core.List.{List, [], _∷_}
 use mathlib.Core.Option.{Option, none, some}
-use Prim.Native.Nat.{ℕ, zero, suc, _^_, _<_}
+use Prim.Native.Nat.{ℕ, zero, suc, _+_, _^_, _<_}
 use lib.ListN.{getD}
 use lib.Dec.{eqb, leb}
+use Rattle.word.specs.Be.{cut, val}
 use Rattle.word.specs.Fields.{fields, unfields}
 use Rattle.target.specs.declared.OptionTarget.{OptionTarget}
 use Rattle.target.specs.declared.OptionTarget.the-variants.{Absent, Present}
@@ -14,6 +15,7 @@ use Rattle.transaction.specs.declared.ParentIndex.the-variants.{NoParent, Paren
 use Rattle.transaction.specs.declared.Edit.{Edit}
 use Rattle.transaction.specs.Change.{newValue, previousValue, messageOf}
 use Rattle.transaction.specs.Fields.{refLogOf, refLogOption, previousOf, previousOption}
+use Rattle.transaction.specs.declared.PreviousValue.{PreviousValue}
 use Rattle.transaction.specs.declared.Change.{Change}
 use Rattle.slots.specs.declared.OptionOptionTarget.{OptionOptionTarget}
 use Rattle.slots.specs.declared.OptionOptionTarget.the-variants.{NoTarget}
@@ -25,7 +27,6 @@ use Rattle.slots.specs.declared.OptionChange.the-variants.{NoChange}
 use Rattle.slots.specs.declared.OptionChange.the-variants as optionChange
 use Rattle.slots.specs.declared.OptionRow.{OptionRow}
 use Rattle.slots.specs.declared.OptionRow.the-variants.{NoRow, Row}
-use Rattle.slots.specs.declared.RowNumbers.{RowNumbers}
 use Rattle.model.specs.EditList.{_>>=_, flagOf, targetOf, changeOf}
 use Rattle.model.specs.Numbers.{rowPlaces}
 use Rattle.slots.specs.Values.{FitsTarget}
@@ -67,6 +68,28 @@ rowFrom xs = do
 unfoldable pub rowIn : List ℕ → Option Edit
 rowIn r = rowFrom (unfields 0 rowWidths r)
 
+-- ---- the parts of a row in its slot
+
+-- the target of the nine bytes from the a-th on
+unfoldable pub targetIn : ℕ → List ℕ → Option OptionTarget
+targetIn a r = targetFrom (val (cut a 1 r)) (val (cut (a + 1) 8 r))
+
+unfoldable pub expectedIn : List ℕ → Option PreviousValue
+expectedIn r = do
+  was ← targetIn 8 r
+  previousOption (previousOf (val (cut 7 1 r)) was)
+
+unfoldable pub changeIn : List ℕ → Option Change
+changeIn r = do
+  log ← refLogOption (refLogOf (val (cut 3 1 r)))
+  force ← flagOf (val (cut 4 1 r))
+  expected ← expectedIn r
+  new ← targetIn 17 r
+  changeOf (val (cut 2 1 r)) log force expected new (val (cut 5 2 r))
+
+unfoldable pub parentIn : List ℕ → Option ParentIndex
+parentIn r = parentFrom (val (cut 26 1 r)) (val (cut 27 1 r))
+
 -- ---- the code's own forms of what may be missing
 
 abbrev pub targetOption : OptionOptionTarget → Option OptionTarget
@@ -84,11 +107,6 @@ changeOption (optionChange.Change c) = some c
 abbrev pub rowOption : OptionRow → Option Edit
 rowOption NoRow = none
 rowOption (Row r) = some r
-
--- the thirteen numbers as a list
-abbrev pub numbers : RowNumbers → List ℕ
-numbers n =
-    n .name ∷ n .kind ∷ n .log ∷ n .force ∷ n .message ∷ n .expected ∷ n .«was_kind» ∷ n .was ∷ n .«new_kind» ∷ n .new ∷ n .«has_parent» ∷ n .parent ∷ n .leaf ∷ []
 
 -- ---- a row that its bytes can hold
 

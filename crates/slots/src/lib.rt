@@ -1,14 +1,16 @@
 // The forms of a store's values in slots of bytes: a loose value, a packed value, a lock, a log line and a row, each read and
 // written at the region's edge. Reading a slot finds a value, or none where the bytes are no form of one.
 ghost use mathlib.Core.Path.{_≡_};
+ghost use Prim.Native.Nat.{_+_, _≤_};
 ghost use lib.ListN.{length};
-ghost use Rattle.word.specs.Be.{val};
+ghost use Rattle.word.specs.Be.{cut, val};
 ghost use Rattle.word.specs.Fields.{unfields};
 ghost use Rattle.slots.specs.Values.{looseForm, looseKind, looseNumber, looseFrom, looseIn, packedForm, packedFrom, lockForm, lockFrom, lockIn, lineFrom, lineWidths};
 ghost use Rattle.model.specs.Store.{lockByte};
 ghost use Rattle.model.specs.EditList.{changeOf};
 ghost use Rattle.slots.specs.Values.{looseOption, lockOption};
-ghost use Rattle.slots.specs.Row.{rowFrom, rowIn, rowOption, targetFrom, targetOption, parentFrom, parentOption, changeOption, numbers, rowWidths};
+ghost use Rattle.transaction.specs.Fields.{previousOption};
+ghost use Rattle.slots.specs.Row.{rowIn, rowOption, targetFrom, targetIn, targetOption, expectedIn, parentFrom, parentIn, parentOption, changeIn, changeOption};
 use model::Line;
 use model::Lock;
 use model::Loose;
@@ -26,6 +28,23 @@ use transaction::ParentIndex;
 use transaction::PreviousValue;
 use transaction::RefEdit;
 use transaction::RefLog;
+
+// ---- a number in a slot
+
+// The number that stands at a place, `width` bytes wide, and one of two bytes.
+fn number_at(slot: &[u8], at: usize, width: usize) -> u64
+    requires { ⌜ (at + width ≤ length (now slot)) × (width ≤ 8) ⌝ }
+    ensures { λ r. ⌜ r ≡ val (cut at width (now (slot .entry))) ⌝ }
+{
+    word::get(&slot[at..at + width])
+}
+
+fn short_at(slot: &[u8], at: usize) -> u16
+    requires { ⌜ at + 2 ≤ length (now slot) ⌝ }
+    ensures { λ r. ⌜ r ≡ val (cut at 2 (now (slot .entry))) ⌝ }
+{
+    word::get16(&slot[at..at + 2])
+}
 
 // ---- a loose value: a kind and a number
 
@@ -81,8 +100,8 @@ pub fn get_loose(slot: &[u8]) -> OptionLoose
     requires { ⌜ length (now slot) ≡ 9 ⌝ }
     ensures { λ r. ⌜ looseOption r ≡ looseIn (now (slot .entry)) ⌝ }
 {
-    let kind = word::get(&slot[0..1]);
-    let number = word::get(&slot[1..9]);
+    let kind = number_at(slot, 0, 1);
+    let number = number_at(slot, 1, 8);
     loose_from(kind, number)
 }
 
@@ -203,11 +222,11 @@ pub fn get_line(slot: &[u8]) -> Line
     requires { ⌜ length (now slot) ≡ 22 ⌝ }
     ensures { λ r. ⌜ r ≡ lineFrom (unfields 0 lineWidths (now (slot .entry))) ⌝ }
 {
-    let name = word::get16(&slot[0..2]);
-    let previous = word::get(&slot[2..10]);
-    let new = word::get(&slot[10..18]);
-    let committer = word::get16(&slot[18..20]);
-    let message = word::get16(&slot[20..22]);
+    let name = short_at(slot, 0);
+    let previous = number_at(slot, 2, 8);
+    let new = number_at(slot, 10, 8);
+    let committer = short_at(slot, 18);
+    let message = short_at(slot, 20);
     Line {
         name: NameNumber(name),
         previous: ObjectNumber(previous),
@@ -217,24 +236,7 @@ pub fn get_line(slot: &[u8]) -> Line
     }
 }
 
-// ---- a row: thirteen numbers
-
-// The numbers of a row, in the order in which a slot has them and reading a row answers them.
-pub struct RowNumbers {
-    pub name: u16,
-    pub kind: u64,
-    pub log: u64,
-    pub force: u64,
-    pub message: u16,
-    pub expected: u64,
-    pub was_kind: u64,
-    pub was: u64,
-    pub new_kind: u64,
-    pub new: u64,
-    pub has_parent: u64,
-    pub parent: u64,
-    pub leaf: u64,
-}
+// ---- a row: thirteen numbers, each at its place in the slot
 
 pub enum OptionRow {
     NoRow,
@@ -254,40 +256,6 @@ pub enum OptionOptionTarget {
 pub enum OptionChange {
     NoChange,
     Change(Change),
-}
-
-fn get_numbers(slot: &[u8]) -> RowNumbers
-    requires { ⌜ length (now slot) ≡ 36 ⌝ }
-    ensures { λ r. ⌜ numbers r ≡ unfields 0 rowWidths (now (slot .entry)) ⌝ }
-{
-    let name = word::get16(&slot[0..2]);
-    let kind = word::get(&slot[2..3]);
-    let log = word::get(&slot[3..4]);
-    let force = word::get(&slot[4..5]);
-    let message = word::get16(&slot[5..7]);
-    let expected = word::get(&slot[7..8]);
-    let was_kind = word::get(&slot[8..9]);
-    let was = word::get(&slot[9..17]);
-    let new_kind = word::get(&slot[17..18]);
-    let new = word::get(&slot[18..26]);
-    let has_parent = word::get(&slot[26..27]);
-    let parent = word::get(&slot[27..28]);
-    let leaf = word::get(&slot[28..36]);
-    RowNumbers {
-        name: name,
-        kind: kind,
-        log: log,
-        force: force,
-        message: message,
-        expected: expected,
-        was_kind: was_kind,
-        was: was,
-        new_kind: new_kind,
-        new: new,
-        has_parent: has_parent,
-        parent: parent,
-        leaf: leaf,
-    }
 }
 
 pub fn target_from(kind: u64, number: u64) -> OptionOptionTarget
@@ -375,47 +343,74 @@ pub fn change_from(
     }
 }
 
-fn row_from(n: RowNumbers) -> OptionRow
-    ensures { λ r. ⌜ rowOption r ≡ rowFrom (numbers n) ⌝ }
+// A target of nine bytes: its kind and its number.
+fn get_target(slot: &[u8], at: usize) -> OptionOptionTarget
+    requires { ⌜ at + 9 ≤ length (now slot) ⌝ }
+    ensures { λ r. ⌜ targetOption r ≡ targetIn at (now (slot .entry)) ⌝ }
 {
-    let OptionRefLog::RefLog(log) = RefLog::new(n.log) else {
-        return OptionRow::NoRow;
-    };
-    if n.force > 1 {
-        return OptionRow::NoRow;
-    }
-    let OptionOptionTarget::Target(was) = target_from(n.was_kind, n.was) else {
-        return OptionRow::NoRow;
-    };
-    let OptionPrevious::Previous(expected) = PreviousValue::new(n.expected, was) else {
-        return OptionRow::NoRow;
-    };
-    let OptionOptionTarget::Target(new) = target_from(n.new_kind, n.new) else {
-        return OptionRow::NoRow;
-    };
-    let OptionChange::Change(change) = change_from(
-        n.kind,
-        log,
-        n.force == 1,
-        expected,
-        new,
-        n.message,
-    ) else {
-        return OptionRow::NoRow;
-    };
-    let OptionParent::Place(parent) = parent_from(n.has_parent, n.parent) else {
-        return OptionRow::NoRow;
-    };
-    OptionRow::Row(Edit {
-        update: RefEdit::new(change, NameNumber(n.name), false),
-        parent_index: parent,
-        leaf_referent_previous_oid: ObjectNumber(n.leaf),
-    })
+    let kind = number_at(slot, at, 1);
+    let number = number_at(slot, at + 1, 8);
+    target_from(kind, number)
 }
 
+// What the edit expects, with the target that it expects.
+fn get_expected(slot: &[u8]) -> OptionPrevious
+    requires { ⌜ length (now slot) ≡ 36 ⌝ }
+    ensures { λ r. ⌜ previousOption r ≡ expectedIn (now (slot .entry)) ⌝ }
+{
+    let OptionOptionTarget::Target(was) = get_target(slot, 8) else {
+        return OptionPrevious::NoPrevious;
+    };
+    PreviousValue::new(number_at(slot, 7, 1), was)
+}
+
+fn get_change(slot: &[u8]) -> OptionChange
+    requires { ⌜ length (now slot) ≡ 36 ⌝ }
+    ensures { λ r. ⌜ changeOption r ≡ changeIn (now (slot .entry)) ⌝ }
+{
+    let OptionRefLog::RefLog(log) = RefLog::new(number_at(slot, 3, 1)) else {
+        return OptionChange::NoChange;
+    };
+    let force = number_at(slot, 4, 1);
+    if force > 1 {
+        return OptionChange::NoChange;
+    }
+    let OptionPrevious::Previous(expected) = get_expected(slot) else {
+        return OptionChange::NoChange;
+    };
+    let OptionOptionTarget::Target(new) = get_target(slot, 17) else {
+        return OptionChange::NoChange;
+    };
+    let kind = number_at(slot, 2, 1);
+    let message = short_at(slot, 5);
+    change_from(kind, log, force == 1, expected, new, message)
+}
+
+fn get_parent(slot: &[u8]) -> OptionParent
+    requires { ⌜ length (now slot) ≡ 36 ⌝ }
+    ensures { λ r. ⌜ parentOption r ≡ parentIn (now (slot .entry)) ⌝ }
+{
+    let has = number_at(slot, 26, 1);
+    let place = number_at(slot, 27, 1);
+    parent_from(has, place)
+}
+
+// A row is not dereferenced.
 pub fn get_row(slot: &[u8]) -> OptionRow
     requires { ⌜ length (now slot) ≡ 36 ⌝ }
     ensures { λ r. ⌜ rowOption r ≡ rowIn (now (slot .entry)) ⌝ }
 {
-    row_from(get_numbers(slot))
+    let OptionChange::Change(change) = get_change(slot) else {
+        return OptionRow::NoRow;
+    };
+    let OptionParent::Place(parent) = get_parent(slot) else {
+        return OptionRow::NoRow;
+    };
+    let name = short_at(slot, 0);
+    let leaf = number_at(slot, 28, 8);
+    OptionRow::Row(Edit {
+        update: RefEdit::new(change, NameNumber(name), false),
+        parent_index: parent,
+        leaf_referent_previous_oid: ObjectNumber(leaf),
+    })
 }

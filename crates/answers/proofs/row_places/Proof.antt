@@ -12,6 +12,21 @@ new-value-requires c κs = search needs
 byte-requires : tie.Need-byte-requires
 byte-requires c κs = search needs
 
+number-requires : tie.Need-number-requires
+number-requires c κs = search needs
+
+byte-requires-2 : tie.Need-byte-requires-2
+byte-requires-2 c κs = search needs
+
+number-requires-2 : tie.Need-number-requires-2
+number-requires-2 c κs = search needs
+
+cast-t13 : tie.Need-cast-t13
+cast-t13 c = search needs
+
+byte-requires-3 : tie.Need-byte-requires-3
+byte-requires-3 c κs = search needs
+
 log-byte-requires : tie.Need-log-byte-requires
 log-byte-requires c κs = search needs
 
@@ -24,32 +39,31 @@ message-of-requires c κs = search needs
 expected-byte-requires : tie.Need-expected-byte-requires
 expected-byte-requires c κs = search needs
 
-byte-requires-2 : tie.Need-byte-requires-2
-byte-requires-2 c κs = search needs
-
-number-requires : tie.Need-number-requires
-number-requires c κs = search needs
-
-byte-requires-3 : tie.Need-byte-requires-3
-byte-requires-3 c κs = search needs
-
-number-requires-2 : tie.Need-number-requires-2
-number-requires-2 c κs = search needs
-
 parent-flag-requires : tie.Need-parent-flag-requires
 parent-flag-requires c κs = search needs
 
 parent-place-requires : tie.Need-parent-place-requires
 parent-place-requires c κs = search needs
 
-cast-t20 : tie.Need-cast-t20
-cast-t20 c = search needs
-
 returns : tie.Need-returns
 returns c =
-    let d = c .before .before .before .before .before .before .before in
-    let row = d .before .before .before .before .before .before .before .before .before .before .args .row in
-    row-is _ _ (row .update .change) (row .«parent_index») _ _ _ _ _ _ _ _ _ _ _ _ _ (d .before .before .before .before .before .before .previous-value .ensures) (d .before .before .before .before .before .new-value .ensures) (d .before .before .before .before .byte .ensures) (d .before .before .before .log-byte .ensures) (d .before .before .force-flag .ensures) (d .before .message-of .ensures) (d .expected-byte .ensures) (c .before .before .before .before .before .before .byte2 .ensures) (c .before .before .before .before .before .number .ensures) (c .before .before .before .before .byte3 .ensures) (c .before .before .before .number2 .ensures) (c .before .before .parent-flag .ensures) (c .before .parent-place .ensures)
+    let d = c .before .before .before .before .before .before .before .before in
+    let g = d .before .before .before .before in
+    let row = g .before .before .before .before .before .args .row in
+    row-is _ _ (row .update .change) (row .«parent_index») _ _ _ _ _ _ _ _ _ _ _ _ _
+    (g .before .previous-value .ensures)
+    (g .new-value .ensures)
+    (c .before .before .before .before .before .before .byte3 .ensures)
+    (c .before .before .before .before .before .log-byte .ensures)
+    (c .before .before .before .before .force-flag .ensures)
+    (c .before .before .before .message-of .ensures)
+    (c .before .before .expected-byte .ensures)
+    (d .before .before .before .byte .ensures)
+    (d .before .before .number .ensures)
+    (d .before .byte2 .ensures)
+    (d .number2 .ensures)
+    (c .before .parent-flag .ensures)
+    (c .parent-place .ensures)
 
 pub row-places-spec : {M : Type 1} → statement M
 row-places-spec =
@@ -58,15 +72,15 @@ row-places-spec =
     previous-value-requires
     new-value-requires
     byte-requires
+    number-requires
+    byte-requires-2
+    number-requires-2
+    cast-t13
+    byte-requires-3
     log-byte-requires
     force-flag-requires
     message-of-requires
     expected-byte-requires
-    byte-requires-2
-    number-requires
-    byte-requires-3
-    number-requires-2
     parent-flag-requires
     parent-place-requires
-    cast-t20
     returns)

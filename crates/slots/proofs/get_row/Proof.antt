@@ -1,18 +1,57 @@
-use mathlib.Core.Path.{ap, _∙_}
-use Rattle.slots.specs.Row.{rowFrom, rowIn}
+use Rattle.slots.proofs.Laws.{row-no-change, row-no-parent, row-in}
 use borrow.Author.Needs.{needs}
 use Rattle.slots.proofs.get_row.Statement.{statement}
 use Rattle.slots.proofs.get_row.Tie as tie
 
-get-numbers-requires : tie.Need-get-numbers-requires
-get-numbers-requires c κs = search needs
+get-change-requires : tie.Need-get-change-requires
+get-change-requires c κs = search needs
 
-row-from-requires : tie.Need-row-from-requires
-row-from-requires c κs = search needs
+enum-known-change : tie.Need-enum-known-change
+enum-known-change c = search needs
+
+enum-told : tie.Need-enum-told
+enum-told c = search needs
 
 returns : tie.Need-returns
-unfolding rowIn
-returns c = c .row-from .ensures ∙ ap rowFrom (c .before .get-numbers .ensures)
+returns c = search row-no-change
+
+get-parent-requires : tie.Need-get-parent-requires
+get-parent-requires c κs = search needs
+
+enum-known-parent : tie.Need-enum-known-parent
+enum-known-parent c = search needs
+
+enum-told-2 : tie.Need-enum-told-2
+enum-told-2 c = search needs
+
+returns-2 : tie.Need-returns-2
+returns-2 c = search row-no-parent
+
+short-at-requires : tie.Need-short-at-requires
+short-at-requires c κs = search needs
+
+number-at-requires : tie.Need-number-at-requires
+number-at-requires c κs = search needs
+
+new-requires : tie.Need-new-requires
+new-requires c κs = search needs
+
+returns-3 : tie.Need-returns-3
+returns-3 c = search row-in
 
 pub get-row-spec : {M : Type 1} → statement M
-get-row-spec = tie.close (tie.spec get-numbers-requires row-from-requires returns)
+get-row-spec =
+    tie.close
+    (tie.spec
+    get-change-requires
+    enum-known-change
+    enum-told
+    returns
+    get-parent-requires
+    enum-known-parent
+    enum-told-2
+    returns-2
+    short-at-requires
+    number-at-requires
+    new-requires
+    returns-3)

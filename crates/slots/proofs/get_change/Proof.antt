@@ -1,0 +1,85 @@
+use Rattle.slots.proofs.Laws.{no-log, no-force, no-previous, no-new, change-in}
+use borrow.Author.Needs.{needs}
+use Rattle.slots.proofs.get_change.Statement.{statement}
+use Rattle.slots.proofs.get_change.Tie as tie
+
+number-at-requires : tie.Need-number-at-requires
+number-at-requires c κs = search needs
+
+new-requires : tie.Need-new-requires
+new-requires c κs = search needs
+
+enum-known-log : tie.Need-enum-known-log
+enum-known-log c = search needs
+
+enum-told : tie.Need-enum-told
+enum-told c = search needs
+
+returns : tie.Need-returns
+returns c = search no-log
+
+number-at-requires-2 : tie.Need-number-at-requires-2
+number-at-requires-2 c κs = search needs
+
+returns-2 : tie.Need-returns-2
+returns-2 c = search no-force
+
+get-expected-requires : tie.Need-get-expected-requires
+get-expected-requires c κs = search needs
+
+enum-known-expected : tie.Need-enum-known-expected
+enum-known-expected c = search needs
+
+enum-told-2 : tie.Need-enum-told-2
+enum-told-2 c = search needs
+
+returns-3 : tie.Need-returns-3
+returns-3 c = search no-previous
+
+get-target-requires : tie.Need-get-target-requires
+get-target-requires c κs = search needs
+
+enum-known-new : tie.Need-enum-known-new
+enum-known-new c = search needs
+
+enum-told-3 : tie.Need-enum-told-3
+enum-told-3 c = search needs
+
+returns-4 : tie.Need-returns-4
+returns-4 c = search no-new
+
+number-at-requires-3 : tie.Need-number-at-requires-3
+number-at-requires-3 c κs = search needs
+
+short-at-requires : tie.Need-short-at-requires
+short-at-requires c κs = search needs
+
+change-from-requires : tie.Need-change-from-requires
+change-from-requires c κs = search needs
+
+returns-5 : tie.Need-returns-5
+returns-5 c = search change-in
+
+pub get-change-spec : {M : Type 1} → statement M
+get-change-spec =
+    tie.close
+    (tie.spec
+    number-at-requires
+    new-requires
+    enum-known-log
+    enum-told
+    returns
+    number-at-requires-2
+    returns-2
+    get-expected-requires
+    enum-known-expected
+    enum-told-2
+    returns-3
+    get-target-requires
+    enum-known-new
+    enum-told-3
+    returns-4
+    number-at-requires-3
+    short-at-requires
+    change-from-requires
+    returns-5)
