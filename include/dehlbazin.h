@@ -1,7 +1,5 @@
 /* Dehlbazin: the refs of a site's aisle layouts, in one region of bytes that the caller lends. For C and for C++.
  *
- * Written ahead of the archive that it is linked with, which is not built yet (README.md says what stands).
- *
  * docs/SPEC.md says what the calls mean, docs/ABI.md how to use them, docs/LAYOUT.md what stands in the region.
  *
  * Every call takes the region first, then its own arguments, then the answer record, each run of bytes as a pointer and a

@@ -31,7 +31,7 @@ use transaction::RefLog;
 
 // ---- a number in a slot
 
-// The number that stands at a place, `width` bytes wide, and one of two bytes.
+// The number that stands at a place, `width` bytes wide.
 fn number_at(slot: &[u8], at: usize, width: usize) -> u64
     requires { ⌜ (at + width ≤ length (now slot)) × (width ≤ 8) ⌝ }
     ensures { λ r. ⌜ r ≡ val (cut at width (now (slot .entry))) ⌝ }
@@ -39,6 +39,7 @@ fn number_at(slot: &[u8], at: usize, width: usize) -> u64
     word::get(&slot[at..at + width])
 }
 
+// The same of two bytes, as a number of 16 bits.
 fn short_at(slot: &[u8], at: usize) -> u16
     requires { ⌜ at + 2 ≤ length (now slot) ⌝ }
     ensures { λ r. ⌜ r ≡ val (cut at 2 (now (slot .entry))) ⌝ }

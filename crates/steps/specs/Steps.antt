@@ -1,4 +1,4 @@
--- What the functions below the calls come to. Proofs of the calls are to show that these are what the model's `step` does.
+-- What the functions below the calls come to. The laws of the calls' crates show that these are what the model's `step` does.
 use mathlib.Core.Bool.{Bool, _&&_, cond}
 use mathlib.Core.List.{List}
 use mathlib.Core.Option.{Option, none, some}
