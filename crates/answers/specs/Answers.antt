@@ -4,7 +4,7 @@ use Prim.Native.Nat.{ℕ, _-_}
 use lib.ListN.{length, replicate}
 use Rattle.word.specs.Be.{be}
 use Rattle.model.specs.Basic.{collect}
-use Rattle.model.specs.Numbers.{Answer, answer, refusalAnswer, optionPlaces, rowPlaces}
+use Rattle.model.specs.Numbers.{Answer, answer, optionPlaces, rowPlaces}
 use Rattle.transaction.specs.declared.ParentIndex.{ParentIndex}
 use Rattle.transaction.specs.declared.ParentIndex.the-variants.{NoParent, Parent}
 use Rattle.answers.specs.declared.Verdict.{Verdict}
@@ -24,7 +24,7 @@ answerBy (verdict.Bytes offset len) = answer 0 (offset ∷ len ∷ [])
 answerBy (verdict.Value t) = answer 0 (optionPlaces t)
 answerBy (verdict.Line l) = answer 0 (l .previous .0 ∷ l .new .0 ∷ l .committer ∷ l .message ∷ [])
 answerBy (verdict.Row r) = answer 0 (rowPlaces r)
-answerBy (verdict.Refused x) = refusalAnswer x
+answerBy (verdict.Refused n x) = answer n (x ∷ [])
 
 -- a row's parent, in two places: whether there is one, and where
 abbrev pub parentFlag : ParentIndex → ℕ

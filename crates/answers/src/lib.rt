@@ -1,27 +1,43 @@
 // What a call answers, and the record that is filled with it.
 ghost use mathlib.Core.Path.{_≡_};
-ghost use mathlib.Core.List.{[], _∷_, _++_};
+ghost use mathlib.Core.List.{[], _∷_};
 ghost use lib.ListN.{length};
 ghost use Rattle.transaction.specs.Change.{logOf, forceOf, messageOf, expectedOf};
 ghost use Rattle.transaction.specs.Fields.{refLogByte, previousByte};
-ghost use Rattle.model.specs.Numbers.{refusalAnswer, optionPlaces, rowPlaces, flag};
+ghost use Rattle.model.specs.Numbers.{rowPlaces, flag};
 ghost use Rattle.answers.specs.Answers.{recordOf, padded, answerBy, parentFlag, parentPlace};
 use model::Line;
-use model::Refusal;
-use target::NameNumber;
 use target::OptionTarget;
 use transaction::Change;
 use transaction::Edit;
 use transaction::ParentIndex;
 
-// The answer record: 16 places of 8 bytes.
+// The answer record, 16 places of 8 bytes, and the numbers of refusals.
 pub struct Answer {}
 
 impl Answer {
     pub const SIZE: usize = 128;
+
+    pub const BAD_REGION: u32 = 1;
+
+    pub const MALFORMED: u32 = 2;
+
+    pub const NOT_REGISTERED: u32 = 3;
+
+    pub const WRONG_STATE: u32 = 15;
+
+    pub const BAD_NAME: u32 = 18;
+
+    pub const NAMES_FULL: u32 = 19;
+
+    pub const WRONG_LOCK: u32 = 20;
+
+    pub const BAD_LOAD: u32 = 21;
+
+    pub const NOTHING_THERE: u32 = 22;
 }
 
-// What a call answers.
+// What a call answers: done, with what it gives, or a refusal's number and what stands in its place 0.
 pub enum Verdict {
     Done,
     Number(u64),
@@ -29,7 +45,7 @@ pub enum Verdict {
     Value(OptionTarget),
     Line(Line),
     Row(Edit),
-    Refused(Refusal),
+    Refused(u32, u64),
 }
 
 // ---- the record
@@ -64,19 +80,6 @@ fn two_places(x: u64, y: u64) -> [u64; 16]
     let mut out = [0u64; 16];
     out[0] = x;
     out[1] = y;
-    out
-}
-
-// A name and two targets, of which either may be absent.
-fn name_places(name: NameNumber, first: OptionTarget, second: OptionTarget) -> [u64; 16]
-    ensures { λ r. ⌜ r ≡ padded (name .0 ∷ optionPlaces first ++ optionPlaces second) ⌝ }
-{
-    let mut out = [0u64; 16];
-    out[0] = name.0 as u64;
-    out[1] = first.byte();
-    out[2] = first.number();
-    out[3] = second.byte();
-    out[4] = second.number();
     out
 }
 
@@ -214,72 +217,6 @@ fn row_places(row: Edit) -> [u64; 16]
     ]
 }
 
-// ---- refusals
-
-fn refusal_places(x: Refusal) -> [u64; 16]
-    ensures { λ r. ⌜ r ≡ refusalAnswer x .places ⌝ }
-{
-    match x {
-        Refusal::NotRegistered(n) => one_place(n),
-        Refusal::MultipleEdits(n) => one_place(n.0 as u64),
-        Refusal::LockAcquire(n) => one_place(n.0 as u64),
-        Refusal::DeleteReferenceMustExist(n) => one_place(n.0 as u64),
-        Refusal::DeleteMustNotExist(n) => one_place(n.0 as u64),
-        Refusal::MustNotExist(n, actual, new) => {
-            name_places(n, OptionTarget::Present(actual), OptionTarget::Present(new))
-        }
-        Refusal::MustExist(n, expected) => {
-            name_places(n, OptionTarget::Present(expected), OptionTarget::Absent)
-        }
-        Refusal::ReferenceOutOfDate(n, expected, actual) => {
-            name_places(
-                n,
-                OptionTarget::Present(expected),
-                OptionTarget::Present(actual),
-            )
-        }
-        Refusal::BadRegion => one_place(0),
-        Refusal::Malformed => one_place(0),
-        Refusal::ReferenceCycle => one_place(0),
-        Refusal::TooManyRows => one_place(0),
-        Refusal::PackedTransactionAcquire => one_place(0),
-        Refusal::LogFull => one_place(0),
-        Refusal::WrongState => one_place(0),
-        Refusal::BadName => one_place(0),
-        Refusal::NamesFull => one_place(0),
-        Refusal::WrongLock => one_place(0),
-        Refusal::BadLoad => one_place(0),
-        Refusal::NothingThere => one_place(0),
-    }
-}
-
-fn refusal_number(x: Refusal) -> u32
-    ensures { λ r. ⌜ r ≡ refusalAnswer x .number ⌝ }
-{
-    match x {
-        Refusal::BadRegion => 1,
-        Refusal::Malformed => 2,
-        Refusal::NotRegistered(_) => 3,
-        Refusal::ReferenceCycle => 4,
-        Refusal::TooManyRows => 5,
-        Refusal::MultipleEdits(_) => 6,
-        Refusal::PackedTransactionAcquire => 7,
-        Refusal::LockAcquire(_) => 8,
-        Refusal::DeleteReferenceMustExist(_) => 9,
-        Refusal::MustNotExist(_, _, _) => 10,
-        Refusal::MustExist(_, _) => 11,
-        Refusal::ReferenceOutOfDate(_, _, _) => 12,
-        Refusal::DeleteMustNotExist(_) => 13,
-        Refusal::LogFull => 14,
-        Refusal::WrongState => 15,
-        Refusal::BadName => 18,
-        Refusal::NamesFull => 19,
-        Refusal::WrongLock => 20,
-        Refusal::BadLoad => 21,
-        Refusal::NothingThere => 22,
-    }
-}
-
 // ---- the answer
 
 fn places_of(verdict: Verdict) -> [u64; 16]
@@ -292,7 +229,7 @@ fn places_of(verdict: Verdict) -> [u64; 16]
         Verdict::Value(t) => two_places(t.byte(), t.number()),
         Verdict::Line(l) => line_places(l),
         Verdict::Row(row) => row_places(row),
-        Verdict::Refused(x) => refusal_places(x),
+        Verdict::Refused(_, x) => one_place(x),
     }
 }
 
@@ -306,7 +243,7 @@ fn number_of(verdict: Verdict) -> u32
         Verdict::Value(_) => 0,
         Verdict::Line(_) => 0,
         Verdict::Row(_) => 0,
-        Verdict::Refused(x) => refusal_number(x),
+        Verdict::Refused(number, _) => number,
     }
 }
 

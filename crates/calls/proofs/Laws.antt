@@ -22,7 +22,7 @@ use Rattle.answers.specs.declared.Verdict.the-variants.{Done, Number, Refused}
 use Rattle.calls.specs.declared.OptionSetting.{OptionSetting}
 use Rattle.calls.specs.declared.OptionSetting.the-variants.{NoSetting, Setting}
 use Rattle.calls.specs.Call.{replyTo, Replied, settingOption}
-use Rattle.calls.proofs.Replies.{refuses, bad-region, says-done}
+use Rattle.calls.proofs.Replies.{refuses, bad-region, says-done, no-1, no-2}
 
 -- ---- start
 
@@ -42,18 +42,18 @@ setting-none (suc (suc zero)) a b c = absurd (c refl)
 setting-none (suc (suc (suc k))) a b c = refl
 
 module _ (k : ℕ) (r : List ℕ) where
-  pub start-size : (length r ≡ regionSize → ⊥) → Replied (Refused BadRegion) r r (replyTo (start k) r)
+  pub start-size : (length r ≡ regionSize → ⊥) → Replied (Refused 1 0) r r (replyTo (start k) r)
   unfolding replyTo
-  start-size h = refuses (start k) r BadRegion (rw (ne-eqb (length r) regionSize h))
+  start-size h = refuses (start k) r BadRegion 1 0 no-1 (rw (ne-eqb (length r) regionSize h))
 
   module _ (e : length r ≡ regionSize) (o : OptionSetting) (is : settingOption o ≡ settingOf k) where
     starts : replyTo (start k) r ≡ started k
     unfolding replyTo step
     starts = rw (eq-eqb (length r) regionSize e)
 
-    pub start-malformed : o ≡ NoSetting → Replied (Refused Malformed) r r (replyTo (start k) r)
+    pub start-malformed : o ≡ NoSetting → Replied (Refused 2 0) r r (replyTo (start k) r)
     unfolding started
-    start-malformed h = refuses (start k) r Malformed (starts ∙ (rw (← is, h)))
+    start-malformed h = refuses (start k) r Malformed 2 0 no-2 (starts ∙ (rw (← is, h)))
 
     pub start-done : (s : WriteReflog) (r′ : List ℕ) → o ≡ Setting s → r′ ≡ image (empty s) → Replied Done r r′ (replyTo (start k) r)
     unfolding started answerOf
@@ -61,7 +61,7 @@ module _ (k : ℕ) (r : List ℕ) where
 
 -- ---- rollback
 
-pub rollback-bad : (r : List ℕ) (ok : Bool) → ok ≡ good r → not ok ≡ true → Replied (Refused BadRegion) r r (replyTo rollback r)
+pub rollback-bad : (r : List ℕ) (ok : Bool) → ok ≡ good r → not ok ≡ true → Replied (Refused 1 0) r r (replyTo rollback r)
 rollback-bad r ok is n = bad-region rollback r ok is refl n
 
 pub rollback-done : (r r′ : List ℕ) (ok : Bool) (k : ℕ) → ok ≡ good r → not ok ≡ false → k ≡ length (rowsIn (view r .prepared))

@@ -1,16 +1,16 @@
 -- The ways in which a call can answer, one law for each, whatever the call. Assumes nothing.
 use mathlib.Core.Path.{_≡_, refl, sym, ap, _∙_}
 use mathlib.Core.Bool.{Bool, true, false, not}
-use mathlib.Core.List.{List}
+use mathlib.Core.List.{List, [], _∷_}
 use Prim.Native.Nat.{ℕ}
 use borrow.Author.Tests.{not-true, not-false}
 use Rattle.model.specs.declared.Refusal.{Refusal}
-use Rattle.model.specs.declared.Refusal.the-variants.{BadRegion}
+use Rattle.model.specs.declared.Refusal.the-variants.{BadRegion, Malformed, NotRegistered, WrongState, BadName, NamesFull, WrongLock, BadLoad, NothingThere}
 use Rattle.model.specs.Store.{Store}
 use Rattle.model.specs.Reply.{Call, Given}
 use Rattle.model.specs.Reply.Reply.{done, refused}
 use Rattle.model.specs.Calls.{step}
-use Rattle.model.specs.Numbers.{answer, answerOf, givenPlaces}
+use Rattle.model.specs.Numbers.{answer, answerOf, givenPlaces, refusalAnswer}
 use Rattle.region.specs.Region.{view, decode, good, nameOffset, Laid, Became}
 use Rattle.region.proofs.Decode.{decode-good, decode-bad, good-parts, laid, laid-image, became-image}
 use Rattle.answers.specs.declared.Verdict.{Verdict}
@@ -22,23 +22,65 @@ use Rattle.calls.specs.Call.{found, stepOn, replyTo, Replied}
 pub good-laid : (r : List ℕ) (ok : Bool) → ok ≡ good r → not ok ≡ false → Laid r
 good-laid r ok is y = laid r (good-parts r (sym is ∙ not-false ok y) .0)
 
--- a refusal, with the region as it is
-pub refuses : (c : Call) (r : List ℕ) (x : Refusal) → replyTo c r ≡ refused x → Replied (Refused x) r r (replyTo c r)
+-- ---- the number of each refusal that these calls give, and what stands in its place 0
+
+pub no-1 : refusalAnswer BadRegion ≡ answer 1 (0 ∷ [])
+unfolding refusalAnswer
+no-1 = refl
+
+pub no-2 : refusalAnswer Malformed ≡ answer 2 (0 ∷ [])
+unfolding refusalAnswer
+no-2 = refl
+
+pub no-3 : (n : ℕ) → refusalAnswer (NotRegistered n) ≡ answer 3 (n ∷ [])
+unfolding refusalAnswer
+no-3 n = refl
+
+pub no-15 : refusalAnswer WrongState ≡ answer 15 (0 ∷ [])
+unfolding refusalAnswer
+no-15 = refl
+
+pub no-18 : refusalAnswer BadName ≡ answer 18 (0 ∷ [])
+unfolding refusalAnswer
+no-18 = refl
+
+pub no-19 : refusalAnswer NamesFull ≡ answer 19 (0 ∷ [])
+unfolding refusalAnswer
+no-19 = refl
+
+pub no-20 : refusalAnswer WrongLock ≡ answer 20 (0 ∷ [])
+unfolding refusalAnswer
+no-20 = refl
+
+pub no-21 : refusalAnswer BadLoad ≡ answer 21 (0 ∷ [])
+unfolding refusalAnswer
+no-21 = refl
+
+pub no-22 : refusalAnswer NothingThere ≡ answer 22 (0 ∷ [])
+unfolding refusalAnswer
+no-22 = refl
+
+-- ---- the ways to answer
+
+-- a refusal, with the region as it is. n and p are its number and what stands in its place 0
+pub refuses : (c : Call) (r : List ℕ) (x : Refusal) (n p : ℕ) → refusalAnswer x ≡ answer n (p ∷ []) → replyTo c r ≡ refused x
+    → Replied (Refused n p) r r (replyTo c r)
 unfolding answerOf
-refuses c r x e = rw e (record { answer = refl; region = refl })
+refuses c r x n p a e = rw e (record { answer = sym a; region = refl })
 
 module _ (c : Call) (r : List ℕ) (ok : Bool) (is : ok ≡ good r) (looks : found c r ≡ decode r) where
-  pub bad-region : not ok ≡ true → Replied (Refused BadRegion) r r (replyTo c r)
+  pub bad-region : not ok ≡ true → Replied (Refused 1 0) r r (replyTo c r)
   unfolding replyTo
-  bad-region n = refuses c r BadRegion (ap (stepOn c) (looks ∙ decode-bad r (sym is ∙ not-true ok n)))
+  bad-region n = refuses c r BadRegion 1 0 no-1 (ap (stepOn c) (looks ∙ decode-bad r (sym is ∙ not-true ok n)))
 
   module _ (y : not ok ≡ false) where
     pub replies : replyTo c r ≡ step c (view r)
     unfolding replyTo
     replies = ap (stepOn c) (looks ∙ decode-good r (sym is ∙ not-false ok y))
 
-    pub says-no : (x : Refusal) → step c (view r) ≡ refused x → Replied (Refused x) r r (replyTo c r)
-    says-no x e = refuses c r x (replies ∙ e)
+    pub says-no : (x : Refusal) (n p : ℕ) → refusalAnswer x ≡ answer n (p ∷ []) → step c (view r) ≡ refused x
+        → Replied (Refused n p) r r (replyTo c r)
+    says-no x n p a e = refuses c r x n p a (replies ∙ e)
 
     -- done, and the region became that of the new store
     pub says-done : (v : Verdict) (s : Store) (g : Given) (r′ : List ℕ) → step c (view r) ≡ done s g

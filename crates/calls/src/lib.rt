@@ -4,8 +4,8 @@ ghost use mathlib.Core.Path.{_≡_};
 ghost use Rattle.model.specs.Load.{settingOf};
 ghost use Rattle.model.specs.Reply.Call.{start, rollback};
 ghost use Rattle.calls.specs.Call.{replyTo, Replied, settingOption};
+use answers::Answer;
 use answers::Verdict;
-use model::Refusal;
 use model::WriteReflog;
 use region::Layout;
 
@@ -32,10 +32,10 @@ pub fn start_with(region: &mut [u8], setting: u64) -> Verdict
     ensures { λ r. ⌜ Replied r (now (region .entry)) (now (region .exit)) (replyTo (start setting) (now (region .entry))) ⌝ }
 {
     if region.len() != Layout::SIZE {
-        return Verdict::Refused(Refusal::BadRegion);
+        return Verdict::Refused(Answer::BAD_REGION, 0);
     }
     let OptionSetting::Setting(s) = setting_of(setting) else {
-        return Verdict::Refused(Refusal::Malformed);
+        return Verdict::Refused(Answer::MALFORMED, 0);
     };
     region::make_empty(region, s);
     Verdict::Done
@@ -48,7 +48,7 @@ pub fn roll_back(region: &mut [u8]) -> Verdict
     ensures { λ r. ⌜ Replied r (now (region .entry)) (now (region .exit)) (replyTo rollback (now (region .entry))) ⌝ }
 {
     if !good::is_good(region) {
-        return Verdict::Refused(Refusal::BadRegion);
+        return Verdict::Refused(Answer::BAD_REGION, 0);
     }
     let rows = region::count_rows(region);
     steps::release(region);

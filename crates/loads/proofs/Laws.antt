@@ -1,24 +1,26 @@
 -- Loads: what each way out answers. Assumes nothing.
 use mathlib.Core.Path.{_≡_, refl, sym, ap, _∙_}
-use mathlib.Core.Bool.{Bool, true, false, not, _&&_, cond, and-false}
+use mathlib.Core.Bool.{Bool, true, false, not, _&&_, and-false}
 use mathlib.Core.List.{List}
-use mathlib.Core.Option.{none, some}
+use mathlib.Core.Option.{Option, none, some}
 use Prim.Native.Nat.{ℕ, zero, suc, _<_, _≤_, _^_}
 use native.Mathlib.Omega.{arith}
 use lib.Dec.{eqb, ltb, leb}
 use borrow.Author.Tests.{lt-leb, le-ltb, lt-ltb, ltb-true, leb-true, leb-false, ne-eqb, not-false}
 use mir.Val.{Fits}
 use mir.Syntax.{w64}
+use Rattle.transaction.specs.declared.PackedRefs.{PackedRefs}
+use Rattle.transaction.specs.declared.PackedRefs.the-variants.{DeletionsOnly, DeletionsAndNonSymbolicUpdates, DeletionsAndNonSymbolicUpdatesRemoveLooseSourceReference}
+use Rattle.transaction.specs.Fields.{packedRefsNumber}
 use Rattle.model.specs.declared.Loose.{Loose}
 use Rattle.model.specs.declared.Packed.{Packed}
 use Rattle.model.specs.declared.Packed.the-variants as packed
-use Rattle.model.specs.declared.Refusal.{Refusal}
 use Rattle.model.specs.declared.Refusal.the-variants.{NotRegistered, WrongState, BadLoad}
 use Rattle.model.specs.Names.{packable}
-use Rattle.model.specs.Store.{Store, count, entryAt, isPrepared, isId, putLoose, putPacked, changeEntry}
+use Rattle.model.specs.Store.{Store, Prepared, count, entryAt, isPrepared, isId, putLoose, putPacked, changeEntry}
+use Rattle.model.specs.Outcome.Outcome.{refuse, pass}
 use Rattle.model.specs.Reply.{Reply, _>>_, known, idle}
 use Rattle.model.specs.Reply.Call.{loadLoose, loadPacked}
-use Rattle.model.specs.Reply.Reply.{done, refused}
 use Rattle.model.specs.Reply.Given.{nothing}
 use Rattle.model.specs.Calls.{step}
 use Rattle.model.specs.Load.{looseOf, looseLoaded, packedOf, packedLoaded}
@@ -28,15 +30,14 @@ use Rattle.slots.specs.Values.{FitsLoose, FitsPacked, looseFrom, looseOption}
 use Rattle.word.proofs.Tests.{both-true}
 use Rattle.model.proofs.Binds.{cond-some, some-is, none-some}
 use Rattle.slots.proofs.Forms.{loose-back}
-use Rattle.region.specs.Region.{view, good, Became}
-use Rattle.steps.specs.declared.Ready.{Ready}
-use Rattle.steps.specs.declared.Ready.the-variants.{Go, Stop}
+use Rattle.region.specs.Region.{view, good, modeByte, Became}
 use Rattle.steps.specs.declared.OptionPacked.{OptionPacked}
 use Rattle.steps.specs.declared.OptionPacked.the-variants as optionPacked
-use Rattle.steps.specs.Steps.{readyFor, packedBy, packedOption}
+use Rattle.steps.specs.Steps.{packedBy, packedOption}
 use Rattle.answers.specs.declared.Verdict.the-variants.{Done, Refused}
 use Rattle.calls.specs.Call.{replyTo, Replied}
-use Rattle.calls.proofs.Replies.{good-laid, says-no, says-done}
+use Rattle.calls.proofs.Replies.{good-laid, says-no, says-done, no-3, no-15, no-21}
+use Rattle.calls.proofs.Known.{known-far, known-near}
 
 -- ---- a link that is not registered
 
@@ -50,31 +51,31 @@ link-number s kind x k h e = rw (h, ← e) (go (leb k x) refl)
     go true q = rw (q, le-ltb x k (leb-true k x q))
     go false q = rw (q, lt-ltb x k (leb-false k x q))
 
--- ---- ready: 15, then 3
+-- ---- 15, then 3
 
-module _ (n : ℕ) (s : Store) (t : Ready) (et : t ≡ readyFor n s) where
-  ready-stop : (x : Refusal) (reply : Reply) → t ≡ Stop x → (idle s >> (known n s >> reply)) ≡ refused x
-  unfolding readyFor
-  ready-stop x reply h = go (isPrepared (s .prepared)) (ltb n (count s)) refl refl (sym et ∙ h)
-    where
-      go : (p k : Bool) → isPrepared (s .prepared) ≡ p → ltb n (count s) ≡ k
-          → cond p (Stop WrongState) (cond k Go (Stop (NotRegistered n))) ≡ Stop x → (idle s >> (known n s >> reply)) ≡ refused x
-      go true k ep ek h = let e : WrongState ≡ x = cc in rw (ep, e)
-      go false true ep ek h = absurd (let z : _≡_ {A = ℕ} 0 1 = cc in omega arith)
-      go false false ep ek h = let e : NotRegistered n ≡ x = cc in rw (ep, ek, e)
+mode-positive : (m : PackedRefs) → packedRefsNumber m ≡ 0 → ⊥
+mode-positive DeletionsOnly e = omega arith
+mode-positive DeletionsAndNonSymbolicUpdates e = omega arith
+mode-positive DeletionsAndNonSymbolicUpdatesRemoveLooseSourceReference e = omega arith
 
-  ready-goes : (reply : Reply) → t ≡ Go → (n < count s) × ((idle s >> (known n s >> reply)) ≡ reply)
-  unfolding readyFor
-  ready-goes reply h = go (isPrepared (s .prepared)) (ltb n (count s)) refl refl (sym et ∙ h)
-    where
-      go : (p k : Bool) → isPrepared (s .prepared) ≡ p → ltb n (count s) ≡ k
-          → cond p (Stop WrongState) (cond k Go (Stop (NotRegistered n))) ≡ Go → (n < count s) × ((idle s >> (known n s >> reply)) ≡ reply)
-      go true k ep ek h = absurd (let z : _≡_ {A = ℕ} 0 1 = cc in omega arith)
-      go false true ep ek h = (ltb-true n (count s) ek, rw (ep, ek))
-      go false false ep ek h = absurd (let z : _≡_ {A = ℕ} 0 1 = cc in omega arith)
+is-prepared : (p : Option Prepared) → (modeByte p ≡ 0 → ⊥) → isPrepared p ≡ true
+is-prepared none h = absurd (h refl)
+is-prepared (some p) h = refl
 
-pub ready-near : (n : ℕ) (r : List ℕ) (t : Ready) → t ≡ readyFor n (view r) → t ≡ Go → n < count (view r)
-ready-near n r t e h = ready-goes n (view r) t e (done (view r) nothing) h .0
+not-prepared : (p : Option Prepared) → modeByte p ≡ 0 → isPrepared p ≡ false
+not-prepared none h = refl
+not-prepared (some p) h = absurd (mode-positive (p .mode) h)
+
+module _ (m : ℕ) (s : Store) (em : m ≡ modeByte (s .prepared)) where
+  busy : (m ≡ 0 → ⊥) → idle s ≡ refuse WrongState
+  busy h = rw (is-prepared (s .prepared) (λ (q : modeByte (s .prepared) ≡ 0). h (em ∙ q)))
+
+  free : m ≡ 0 → idle s ≡ pass tt
+  free h = rw (not-prepared (s .prepared) (sym em ∙ h))
+
+  -- past both tests
+  goes : (n k : ℕ) → m ≡ 0 → k ≡ count s → n < k → (reply : Reply) → (idle s >> (known n s >> reply)) ≡ reply
+  goes n k h ek l reply = rw (free h, known-near n k s ek l)
 
 -- ---- the values
 
@@ -106,54 +107,66 @@ packed-fits b (suc (suc k)) x v f h = absurd (none-some (sym h))
 
 -- ---- the ways out
 
-module _ (n kind x : ℕ) (r : List ℕ) (ok : Bool) (is : ok ≡ good r) (y : not ok ≡ false) (t : Ready) (et : t ≡ readyFor n (view r)) where
-  pub loose-stop : (z : Refusal) → t ≡ Stop z → Replied (Refused z) r r (replyTo (loadLoose n kind x) r)
+module _ (n kind x : ℕ) (r : List ℕ) (ok : Bool) (is : ok ≡ good r) (y : not ok ≡ false) (m : ℕ) (em : m ≡ modeByte (view r .prepared)) where
+  pub loose-busy : (m ≡ 0 → ⊥) → Replied (Refused 15 0) r r (replyTo (loadLoose n kind x) r)
   unfolding step looseLoaded
-  loose-stop z h = says-no (loadLoose n kind x) r ok is refl y z (ready-stop n (view r) t et z _ h)
+  loose-busy h = says-no (loadLoose n kind x) r ok is refl y WrongState 15 0 no-15 (rw (busy m (view r) em h))
 
-  pub packed-stop : (z : Refusal) → t ≡ Stop z → Replied (Refused z) r r (replyTo (loadPacked n kind x) r)
+  pub packed-busy : (m ≡ 0 → ⊥) → Replied (Refused 15 0) r r (replyTo (loadPacked n kind x) r)
   unfolding step packedLoaded
-  packed-stop z h = says-no (loadPacked n kind x) r ok is refl y z (ready-stop n (view r) t et z _ h)
+  packed-busy h = says-no (loadPacked n kind x) r ok is refl y WrongState 15 0 no-15 (rw (busy m (view r) em h))
 
-  module _ (g : t ≡ Go) where
-    module _ (stray : Bool) (es : stray ≡ (eqb kind 2 && not (ltb x (count (view r))))) where
-      pub loose-stray : stray ≡ true → Replied (Refused (NotRegistered x)) r r (replyTo (loadLoose n kind x) r)
-      unfolding step looseLoaded
-      loose-stray h = says-no (loadLoose n kind x) r ok is refl y (NotRegistered x) (ready-goes n (view r) t et _ g .1 ∙ (rw (sym es ∙ h)))
+  module _ (h : m ≡ 0) (k : ℕ) (ek : k ≡ count (view r)) where
+    pub loose-far : k ≤ n → Replied (Refused 3 n) r r (replyTo (loadLoose n kind x) r)
+    unfolding step looseLoaded
+    loose-far l = says-no (loadLoose n kind x) r ok is refl y (NotRegistered n) 3 n (no-3 n) (rw (free m (view r) em h, known-far n k (view r) ek l))
 
-      module _ (h : stray ≡ false) (o : OptionLoose) (eo : looseOption o ≡ looseFrom kind x) where
-        same : looseOption o ≡ looseOf kind x
-        same = eo ∙ loose-same kind x (count (view r)) (good-laid r ok is y .names) (sym es ∙ h)
+    pub packed-far : k ≤ n → Replied (Refused 3 n) r r (replyTo (loadPacked n kind x) r)
+    unfolding step packedLoaded
+    packed-far l = says-no (loadPacked n kind x) r ok is refl y (NotRegistered n) 3 n (no-3 n) (rw (free m (view r) em h, known-far n k (view r) ek l))
 
-        pub loose-bad : o ≡ optionLoose.NoLoose → Replied (Refused BadLoad) r r (replyTo (loadLoose n kind x) r)
+    module _ (l : n < k) where
+      on : (reply : Reply) → (idle (view r) >> (known n (view r) >> reply)) ≡ reply
+      on reply = goes m (view r) em n k h ek l reply
+
+      module _ (stray : Bool) (es : stray ≡ (eqb kind 2 && not (ltb x (count (view r))))) where
+        pub loose-stray : stray ≡ true → Replied (Refused 3 x) r r (replyTo (loadLoose n kind x) r)
         unfolding step looseLoaded
-        loose-bad q =
-            let none-there : none ≡ looseOf kind x = ap looseOption (sym q) ∙ same in
-            says-no (loadLoose n kind x) r ok is refl y BadLoad (ready-goes n (view r) t et _ g .1 ∙ (rw (sym es ∙ h, ← none-there)))
+        loose-stray q = says-no (loadLoose n kind x) r ok is refl y (NotRegistered x) 3 x (no-3 x) (on _ ∙ (rw (sym es ∙ q)))
 
-        pub loose-done : (v : Loose) (r′ : List ℕ) → o ≡ optionLoose.Loose v → Became r′ (changeEntry (putLoose v) n (view r))
-            → Replied Done r r′ (replyTo (loadLoose n kind x) r)
-        unfolding step looseLoaded
-        loose-done v r′ q b =
-            let there : some v ≡ looseOf kind x = ap looseOption (sym q) ∙ same in
-            says-done (loadLoose n kind x) r ok is refl y Done (changeEntry (putLoose v) n (view r)) nothing r′ (ready-goes n (view r) t et _ g .1 ∙ (rw (sym es ∙ h, ← there))) refl b
+        module _ (q : stray ≡ false) (o : OptionLoose) (eo : looseOption o ≡ looseFrom kind x) where
+          same : looseOption o ≡ looseOf kind x
+          same = eo ∙ loose-same kind x (count (view r)) (good-laid r ok is y .names) (sym es ∙ q)
 
-    module _ (name : List ℕ) (en : name ≡ entryAt (view r) n .name) (b : Bool) (eb : b ≡ packable name) (o : OptionPacked) (eo : packedOption o ≡ packedBy b kind x) where
-      as-packed : packedOption o ≡ packedOf (entryAt (view r) n .name) kind x
-      as-packed = eo ∙ packed-same (entryAt (view r) n .name) b kind x (eb ∙ ap packable en)
+          pub loose-bad : o ≡ optionLoose.NoLoose → Replied (Refused 21 0) r r (replyTo (loadLoose n kind x) r)
+          unfolding step looseLoaded
+          loose-bad p =
+              let none-there : none ≡ looseOf kind x = ap looseOption (sym p) ∙ same in
+              says-no (loadLoose n kind x) r ok is refl y BadLoad 21 0 no-21 (on _ ∙ (rw (sym es ∙ q, ← none-there)))
 
-      pub packed-bad : o ≡ optionPacked.NoPacked → Replied (Refused BadLoad) r r (replyTo (loadPacked n kind x) r)
-      unfolding step packedLoaded
-      packed-bad q =
-          let none-there : none ≡ packedOf (entryAt (view r) n .name) kind x = ap packedOption (sym q) ∙ as-packed in
-          says-no (loadPacked n kind x) r ok is refl y BadLoad (ready-goes n (view r) t et _ g .1 ∙ (rw (← none-there)))
+          pub loose-done : (v : Loose) (r′ : List ℕ) → o ≡ optionLoose.Loose v → Became r′ (changeEntry (putLoose v) n (view r))
+              → Replied Done r r′ (replyTo (loadLoose n kind x) r)
+          unfolding step looseLoaded
+          loose-done v r′ p b =
+              let there : some v ≡ looseOf kind x = ap looseOption (sym p) ∙ same in
+              says-done (loadLoose n kind x) r ok is refl y Done (changeEntry (putLoose v) n (view r)) nothing r′ (on _ ∙ (rw (sym es ∙ q, ← there))) refl b
 
-      pub packed-done : (v : Packed) (r′ : List ℕ) → o ≡ optionPacked.Packed v → Became r′ (changeEntry (putPacked v) n (view r))
-          → Replied Done r r′ (replyTo (loadPacked n kind x) r)
-      unfolding step packedLoaded
-      packed-done v r′ q b =
-          let there : some v ≡ packedOf (entryAt (view r) n .name) kind x = ap packedOption (sym q) ∙ as-packed in
-          says-done (loadPacked n kind x) r ok is refl y Done (changeEntry (putPacked v) n (view r)) nothing r′ (ready-goes n (view r) t et _ g .1 ∙ (rw (← there))) refl b
+      module _ (name : List ℕ) (en : name ≡ entryAt (view r) n .name) (b : Bool) (eb : b ≡ packable name) (o : OptionPacked) (eo : packedOption o ≡ packedBy b kind x) where
+        as-packed : packedOption o ≡ packedOf (entryAt (view r) n .name) kind x
+        as-packed = eo ∙ packed-same (entryAt (view r) n .name) b kind x (eb ∙ ap packable en)
+
+        pub packed-bad : o ≡ optionPacked.NoPacked → Replied (Refused 21 0) r r (replyTo (loadPacked n kind x) r)
+        unfolding step packedLoaded
+        packed-bad p =
+            let none-there : none ≡ packedOf (entryAt (view r) n .name) kind x = ap packedOption (sym p) ∙ as-packed in
+            says-no (loadPacked n kind x) r ok is refl y BadLoad 21 0 no-21 (on _ ∙ (rw (← none-there)))
+
+        pub packed-done : (v : Packed) (r′ : List ℕ) → o ≡ optionPacked.Packed v → Became r′ (changeEntry (putPacked v) n (view r))
+            → Replied Done r r′ (replyTo (loadPacked n kind x) r)
+        unfolding step packedLoaded
+        packed-done v r′ p b =
+            let there : some v ≡ packedOf (entryAt (view r) n .name) kind x = ap packedOption (sym p) ∙ as-packed in
+            says-done (loadPacked n kind x) r ok is refl y Done (changeEntry (putPacked v) n (view r)) nothing r′ (on _ ∙ (rw (← there))) refl b
 
 -- ---- what is written fits its slot
 

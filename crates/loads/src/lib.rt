@@ -6,11 +6,10 @@ ghost use Rattle.model.specs.Store.{count};
 ghost use Rattle.model.specs.Reply.Call.{loadLoose, loadPacked};
 ghost use Rattle.region.specs.Region.{view, Laid};
 ghost use Rattle.calls.specs.Call.{replyTo, Replied};
+use answers::Answer;
 use answers::Verdict;
-use model::Refusal;
 use slots::OptionLoose;
 use steps::OptionPacked;
-use steps::Ready;
 
 // A link to a number that is not registered.
 fn is_stray_link(region: &[u8], kind: u64, number: u64) -> bool
@@ -27,16 +26,19 @@ pub fn load_loose(region: &mut [u8], name: u64, kind: u64, number: u64) -> Verdi
     ensures { λ r. ⌜ Replied r (now (region .entry)) (now (region .exit)) (replyTo (loadLoose name kind number) (now (region .entry))) ⌝ }
 {
     if !good::is_good(region) {
-        return Verdict::Refused(Refusal::BadRegion);
+        return Verdict::Refused(Answer::BAD_REGION, 0);
     }
-    if let Ready::Stop(refusal) = steps::ready_to_load(region, name) {
-        return Verdict::Refused(refusal);
+    if region::mode_number(region) != 0 {
+        return Verdict::Refused(Answer::WRONG_STATE, 0);
+    }
+    if name >= (region::count_names(region) as u64) {
+        return Verdict::Refused(Answer::NOT_REGISTERED, name);
     }
     if is_stray_link(region, kind, number) {
-        return Verdict::Refused(Refusal::NotRegistered(number));
+        return Verdict::Refused(Answer::NOT_REGISTERED, number);
     }
     let OptionLoose::Loose(value) = slots::loose_from(kind, number) else {
-        return Verdict::Refused(Refusal::BadLoad);
+        return Verdict::Refused(Answer::BAD_LOAD, 0);
     };
     region::put_loose_at(region, name as usize, value);
     Verdict::Done
@@ -46,14 +48,17 @@ pub fn load_packed(region: &mut [u8], name: u64, kind: u64, number: u64) -> Verd
     ensures { λ r. ⌜ Replied r (now (region .entry)) (now (region .exit)) (replyTo (loadPacked name kind number) (now (region .entry))) ⌝ }
 {
     if !good::is_good(region) {
-        return Verdict::Refused(Refusal::BadRegion);
+        return Verdict::Refused(Answer::BAD_REGION, 0);
     }
-    if let Ready::Stop(refusal) = steps::ready_to_load(region, name) {
-        return Verdict::Refused(refusal);
+    if region::mode_number(region) != 0 {
+        return Verdict::Refused(Answer::WRONG_STATE, 0);
+    }
+    if name >= (region::count_names(region) as u64) {
+        return Verdict::Refused(Answer::NOT_REGISTERED, name);
     }
     let packable = names::is_packable(region::name_at(region, name as usize));
     let OptionPacked::Packed(value) = steps::packed_of(packable, kind, number) else {
-        return Verdict::Refused(Refusal::BadLoad);
+        return Verdict::Refused(Answer::BAD_LOAD, 0);
     };
     region::put_packed_at(region, name as usize, value);
     Verdict::Done

@@ -23,7 +23,7 @@ use Rattle.steps.specs.declared.Turned.the-variants as turned
 use Rattle.steps.specs.Steps.{placedOn, liftedFrom}
 use Rattle.answers.specs.declared.Verdict.the-variants.{Done, Refused}
 use Rattle.calls.specs.Call.{replyTo, Replied}
-use Rattle.calls.proofs.Replies.{says-no, says-done}
+use Rattle.calls.proofs.Replies.{says-no, says-done, no-3, no-20}
 use Rattle.calls.proofs.Known.{known-far, known-near}
 
 -- ---- what a lock becomes is what the model's call does with it
@@ -71,22 +71,22 @@ module _ (l : Lockable) (s : Store) (k : knownLock l s ≡ pass tt) (t : Turned)
 
 module _ (r : List ℕ) (ok : Bool) (is : ok ≡ good r) (y : not ok ≡ false) where
   module _ (n k : ℕ) (e : k ≡ count (view r)) where
-    pub lock-far : k ≤ n → Replied (Refused (NotRegistered n)) r r (replyTo (lockName n) r)
+    pub lock-far : k ≤ n → Replied (Refused 3 n) r r (replyTo (lockName n) r)
     unfolding step placed
-    lock-far l = says-no (lockName n) r ok is refl y (NotRegistered n) (rw (known-far n k (view r) e l))
+    lock-far l = says-no (lockName n) r ok is refl y (NotRegistered n) 3 n (no-3 n) (rw (known-far n k (view r) e l))
 
-    pub unlock-far : k ≤ n → Replied (Refused (NotRegistered n)) r r (replyTo (unlockName n) r)
+    pub unlock-far : k ≤ n → Replied (Refused 3 n) r r (replyTo (unlockName n) r)
     unfolding step lifted
-    unlock-far l = says-no (unlockName n) r ok is refl y (NotRegistered n) (rw (known-far n k (view r) e l))
+    unlock-far l = says-no (unlockName n) r ok is refl y (NotRegistered n) 3 n (no-3 n) (rw (known-far n k (view r) e l))
 
     module _ (l : n < k) (t : Turned) (a : Lock) (ea : a ≡ entryAt (view r) n .lock) where
-      pub lock-no : t ≡ placedOn a → t ≡ turned.Refused → Replied (Refused WrongLock) r r (replyTo (lockName n) r)
+      pub lock-no : t ≡ placedOn a → t ≡ turned.Refused → Replied (Refused 20 0) r r (replyTo (lockName n) r)
       unfolding step
-      lock-no et h = says-no (lockName n) r ok is refl y WrongLock (place-no (name n) (view r) (known-near n k (view r) e l) t a ea et h)
+      lock-no et h = says-no (lockName n) r ok is refl y WrongLock 20 0 no-20 (place-no (name n) (view r) (known-near n k (view r) e l) t a ea et h)
 
-      pub unlock-no : t ≡ liftedFrom a → t ≡ turned.Refused → Replied (Refused WrongLock) r r (replyTo (unlockName n) r)
+      pub unlock-no : t ≡ liftedFrom a → t ≡ turned.Refused → Replied (Refused 20 0) r r (replyTo (unlockName n) r)
       unfolding step
-      unlock-no et h = says-no (unlockName n) r ok is refl y WrongLock (lift-no (name n) (view r) (known-near n k (view r) e l) t a ea et h)
+      unlock-no et h = says-no (unlockName n) r ok is refl y WrongLock 20 0 no-20 (lift-no (name n) (view r) (known-near n k (view r) e l) t a ea et h)
 
       module _ (v : Lock) (r′ : List ℕ) (b : Became r′ (changeEntry (putLock v) n (view r))) where
         pub lock-done : t ≡ placedOn a → t ≡ turned.Becomes v → Replied Done r r′ (replyTo (lockName n) r)
@@ -98,13 +98,13 @@ module _ (r : List ℕ) (ok : Bool) (is : ok ≡ good r) (y : not ok ≡ false) 
         unlock-done et h = says-done (unlockName n) r ok is refl y Done _ nothing r′ (lift-done (name n) (view r) (known-near n k (view r) e l) t a ea et v h) refl b
 
   module _ (t : Turned) (a : Lock) (ea : a ≡ view r .packedLock) where
-    pub lock-packed-no : t ≡ placedOn a → t ≡ turned.Refused → Replied (Refused WrongLock) r r (replyTo lockPacked r)
+    pub lock-packed-no : t ≡ placedOn a → t ≡ turned.Refused → Replied (Refused 20 0) r r (replyTo lockPacked r)
     unfolding step
-    lock-packed-no et h = says-no lockPacked r ok is refl y WrongLock (place-no packedTable (view r) refl t a ea et h)
+    lock-packed-no et h = says-no lockPacked r ok is refl y WrongLock 20 0 no-20 (place-no packedTable (view r) refl t a ea et h)
 
-    pub unlock-packed-no : t ≡ liftedFrom a → t ≡ turned.Refused → Replied (Refused WrongLock) r r (replyTo unlockPacked r)
+    pub unlock-packed-no : t ≡ liftedFrom a → t ≡ turned.Refused → Replied (Refused 20 0) r r (replyTo unlockPacked r)
     unfolding step
-    unlock-packed-no et h = says-no unlockPacked r ok is refl y WrongLock (lift-no packedTable (view r) refl t a ea et h)
+    unlock-packed-no et h = says-no unlockPacked r ok is refl y WrongLock 20 0 no-20 (lift-no packedTable (view r) refl t a ea et h)
 
     module _ (v : Lock) (r′ : List ℕ) (b : Became r′ (withPackedLock (view r) v)) where
       pub lock-packed-done : t ≡ placedOn a → t ≡ turned.Becomes v → Replied Done r r′ (replyTo lockPacked r)

@@ -28,7 +28,7 @@ use Rattle.steps.specs.declared.Found.the-variants.{Nowhere, At}
 use Rattle.steps.specs.Steps.{foundOption}
 use Rattle.answers.specs.declared.Verdict.the-variants.{Number, Bytes, Refused}
 use Rattle.calls.specs.Call.{replyTo, Replied, namePart}
-use Rattle.calls.proofs.Replies.{good-laid, bad-region, replies, says-no, says-done, says-read}
+use Rattle.calls.proofs.Replies.{good-laid, bad-region, replies, says-no, says-done, says-read, no-3, no-18, no-19}
 use Rattle.calls.proofs.Known.{known-far, known-near}
 
 -- ---- adding a name
@@ -47,9 +47,9 @@ pub count-room : (r : List ℕ) (k : ℕ) → k ≡ count (view r) → k < 256 �
 count-room r k e l = rw e at l
 
 module _ (name : List ℕ) (r : List ℕ) (ok : Bool) (is : ok ≡ good r) (y : not ok ≡ false) (b : Bool) (eb : b ≡ isName name) where
-  pub add-bad : not b ≡ true → Replied (Refused BadName) r r (replyTo (addName name) r)
+  pub add-bad : not b ≡ true → Replied (Refused 18 0) r r (replyTo (addName name) r)
   unfolding step nameAdded
-  add-bad h = says-no (addName name) r ok is refl y BadName (rw (sym eb ∙ not-true b h))
+  add-bad h = says-no (addName name) r ok is refl y BadName 18 0 no-18 (rw (sym eb ∙ not-true b h))
 
   module _ (h : not b ≡ false) (o : Found) (eo : foundOption o ≡ numberFrom 0 name (view r .entries)) where
     adds : step (addName name) (view r) ≡ addedAs name (view r) (foundOption o)
@@ -60,10 +60,10 @@ module _ (name : List ℕ) (r : List ℕ) (ok : Bool) (is : ok ≡ good r) (y : 
     add-found n q = says-read (addName name) r ok is refl y (Number n) (number n) (adds ∙ (rw q)) refl
 
     module _ (q : o ≡ Nowhere) (k : ℕ) (ek : k ≡ count (view r)) where
-      pub add-full : 256 ≤ k → Replied (Refused NamesFull) r r (replyTo (addName name) r)
+      pub add-full : 256 ≤ k → Replied (Refused 19 0) r r (replyTo (addName name) r)
       add-full l =
           let m : 256 ≤ count (view r) = rw ek at l in
-          says-no (addName name) r ok is refl y NamesFull (adds ∙ (rw (q, le-leb 256 (count (view r)) m)))
+          says-no (addName name) r ok is refl y NamesFull 19 0 no-19 (adds ∙ (rw (q, le-leb 256 (count (view r)) m)))
 
       pub add-done : k < 256 → (r′ : List ℕ) → Became r′ (withEntries (view r) (view r .entries ++ (newEntry name ∷ [])))
           → Replied (Number k) r r′ (replyTo (addName name) r)
@@ -133,9 +133,9 @@ module _ (n : ℕ) (r p : List ℕ) (e : p ≡ namePart n r) where
         let name : entryAt (view r) n .name ≡ namePart n r = part-is n r true g refl (count (view r)) refl (f .1) (entryAt (view r) n .name) refl in
         says-read (nameBytes n) r true g refl refl (Bytes (nameOffset n) (length p)) (bytesOf n) (rw (known-near n (count (view r)) (view r) refl (f .1))) (rw (e, ← name))
 
-  pub bytes-far : (ok : Bool) → ok ≡ good r → not ok ≡ false → length p ≡ 0 → Replied (Refused (NotRegistered n)) r r (replyTo (nameBytes n) r)
+  pub bytes-far : (ok : Bool) → ok ≡ good r → not ok ≡ false → length p ≡ 0 → Replied (Refused 3 n) r r (replyTo (nameBytes n) r)
   unfolding step bytesGiven
-  bytes-far ok is y h = says-no (nameBytes n) r ok is refl y (NotRegistered n) (go (ltb n (count (view r))) refl)
+  bytes-far ok is y h = says-no (nameBytes n) r ok is refl y (NotRegistered n) 3 n (no-3 n) (go (ltb n (count (view r))) refl)
     where
       go : (k : Bool) → ltb n (count (view r)) ≡ k → step (nameBytes n) (view r) ≡ refused (NotRegistered n)
       go true ek =

@@ -2,8 +2,8 @@
 ghost use mathlib.Core.Path.{_≡_};
 ghost use Rattle.model.specs.Reply.Call.{addName, nameBytes};
 ghost use Rattle.calls.specs.Call.{replyTo, Replied, namePart};
+use answers::Answer;
 use answers::Verdict;
-use model::Refusal;
 use region::Layout;
 use steps::Found;
 
@@ -11,17 +11,17 @@ pub fn add_name(region: &mut [u8], name: &[u8]) -> Verdict
     ensures { λ r. ⌜ Replied r (now (region .entry)) (now (region .exit)) (replyTo (addName (now (name .entry))) (now (region .entry))) ⌝ }
 {
     if !good::is_good(region) {
-        return Verdict::Refused(Refusal::BadRegion);
+        return Verdict::Refused(Answer::BAD_REGION, 0);
     }
     if !names::is_name(name) {
-        return Verdict::Refused(Refusal::BadName);
+        return Verdict::Refused(Answer::BAD_NAME, 0);
     }
     if let Found::At(n) = steps::find_name(region, name) {
         return Verdict::Number(n as u64);
     }
     let n = region::count_names(region);
     if n >= 256 {
-        return Verdict::Refused(Refusal::NamesFull);
+        return Verdict::Refused(Answer::NAMES_FULL, 0);
     }
     region::add_name(region, name);
     Verdict::Number(n as u64)
@@ -50,7 +50,7 @@ pub fn name_bytes(region: &[u8], name: u64) -> Verdict
         return Verdict::Bytes((Layout::NAMES as u64) + name * 65 + 1, length);
     }
     if !good::is_good(region) {
-        return Verdict::Refused(Refusal::BadRegion);
+        return Verdict::Refused(Answer::BAD_REGION, 0);
     }
-    Verdict::Refused(Refusal::NotRegistered(name))
+    Verdict::Refused(Answer::NOT_REGISTERED, name)
 }

@@ -28,7 +28,7 @@ use Rattle.steps.specs.declared.OptionLine.the-variants as optionLine
 use Rattle.steps.specs.Steps.{lineOption, lineAmong}
 use Rattle.answers.specs.declared.Verdict.the-variants as verdict
 use Rattle.calls.specs.Call.{replyTo, Replied}
-use Rattle.calls.proofs.Replies.{good-laid, says-no, says-read}
+use Rattle.calls.proofs.Replies.{good-laid, says-no, says-read, no-3, no-22}
 use Rattle.calls.proofs.Known.{known-far, known-near}
 
 -- a registered number has 16 bits
@@ -55,9 +55,9 @@ a-line place ls x h = go (ltb place (length ls)) refl h
 
 module _ (r : List ℕ) (ok : Bool) (is : ok ≡ good r) (y : not ok ≡ false) where
   module _ (n k : ℕ) (e : k ≡ count (view r)) where
-    pub name-far : k ≤ n → Replied (verdict.Refused (NotRegistered n)) r r (replyTo (readName n) r)
+    pub name-far : k ≤ n → Replied (verdict.Refused 3 n) r r (replyTo (readName n) r)
     unfolding step nameRead
-    name-far l = says-no (readName n) r ok is refl y (NotRegistered n) (rw (known-far n k (view r) e l))
+    name-far l = says-no (readName n) r ok is refl y (NotRegistered n) 3 n (no-3 n) (rw (known-far n k (view r) e l))
 
     pub name-done : n < k → (l : Loose) (p : Packed) (v : OptionTarget) → l ≡ entryAt (view r) n .loose → p ≡ entryAt (view r) n .packed
         → v ≡ looseOr l (packedValue true p) → Replied (verdict.Value v) r r (replyTo (readName n) r)
@@ -66,16 +66,16 @@ module _ (r : List ℕ) (ok : Bool) (is : ok ≡ good r) (y : not ok ≡ false) 
         rw (ev, ea, ep) (says-read (readName n) r ok is refl y (verdict.Value (reading (view r) (record { 0 = n }))) (value (reading (view r) (record { 0 = n }))) (rw (known-near n k (view r) e l)) refl)
 
     module _ (place : ℕ) where
-      pub line-far : k ≤ n → Replied (verdict.Refused (NotRegistered n)) r r (replyTo (readLine n place) r)
+      pub line-far : k ≤ n → Replied (verdict.Refused 3 n) r r (replyTo (readLine n place) r)
       unfolding step lineRead
-      line-far l = says-no (readLine n place) r ok is refl y (NotRegistered n) (rw (known-far n k (view r) e l))
+      line-far l = says-no (readLine n place) r ok is refl y (NotRegistered n) 3 n (no-3 n) (rw (known-far n k (view r) e l))
 
       module _ (l : n < k) (o : OptionLine) (eo : lineOption o ≡ lineAmong place (linesOf (view r) (record { 0 = n }))) where
-        pub line-none : o ≡ optionLine.NoLine → Replied (verdict.Refused NothingThere) r r (replyTo (readLine n place) r)
+        pub line-none : o ≡ optionLine.NoLine → Replied (verdict.Refused 22 0) r r (replyTo (readLine n place) r)
         unfolding step lineRead
         line-none h =
             let m : none ≡ lineAmong place (linesOf (view r) (record { 0 = n })) = ap lineOption (sym h) ∙ eo in
-            says-no (readLine n place) r ok is refl y NothingThere (rw (known-near n k (view r) e l, no-line place (linesOf (view r) (record { 0 = n })) m))
+            says-no (readLine n place) r ok is refl y NothingThere 22 0 no-22 (rw (known-near n k (view r) e l, no-line place (linesOf (view r) (record { 0 = n })) m))
 
         pub line-done : (x : Line) → o ≡ optionLine.Line x → Replied (verdict.Line x) r r (replyTo (readLine n place) r)
         unfolding step lineRead
@@ -84,11 +84,11 @@ module _ (r : List ℕ) (ok : Bool) (is : ok ≡ good r) (y : not ok ≡ false) 
             rw (a-line place (linesOf (view r) (record { 0 = n })) x m .1) (says-read (readLine n place) r ok is refl y (verdict.Line (getD (linesOf (view r) (record { 0 = n })) place noLine)) (line (getD (linesOf (view r) (record { 0 = n })) place noLine)) (rw (known-near n k (view r) e l, a-line place (linesOf (view r) (record { 0 = n })) x m .0)) refl)
 
   module _ (place k : ℕ) (e : k ≡ length (rowsIn (view r .prepared))) where
-    pub row-far : k ≤ place → Replied (verdict.Refused NothingThere) r r (replyTo (readRow place) r)
+    pub row-far : k ≤ place → Replied (verdict.Refused 22 0) r r (replyTo (readRow place) r)
     unfolding step rowRead
     row-far l =
         let b : length (rowsIn (view r .prepared)) ≤ place = rw e at l in
-        says-no (readRow place) r ok is refl y NothingThere (rw (le-leb _ _ b))
+        says-no (readRow place) r ok is refl y NothingThere 22 0 no-22 (rw (le-leb _ _ b))
 
     pub row-near : place < k → place < length (rowsIn (view r .prepared))
     row-near l = rw e at l

@@ -1,8 +1,8 @@
 // Reads: a name's value, a line of its log, and a row of the prepared transaction.
 ghost use Rattle.model.specs.Reply.Call.{readName, readLine, readRow};
 ghost use Rattle.calls.specs.Call.{replyTo, Replied};
+use answers::Answer;
 use answers::Verdict;
-use model::Refusal;
 use steps::OptionLine;
 use target::NameNumber;
 
@@ -10,10 +10,10 @@ pub fn read_name(region: &[u8], name: u64) -> Verdict
     ensures { λ r. ⌜ Replied r (now (region .entry)) (now (region .entry)) (replyTo (readName name) (now (region .entry))) ⌝ }
 {
     if !good::is_good(region) {
-        return Verdict::Refused(Refusal::BadRegion);
+        return Verdict::Refused(Answer::BAD_REGION, 0);
     }
     if name >= (region::count_names(region) as u64) {
-        return Verdict::Refused(Refusal::NotRegistered(name));
+        return Verdict::Refused(Answer::NOT_REGISTERED, name);
     }
     let n = name as usize;
     let loose = region::loose_at(region, n);
@@ -25,13 +25,14 @@ pub fn read_line(region: &[u8], name: u64, place: u64) -> Verdict
     ensures { λ r. ⌜ Replied r (now (region .entry)) (now (region .entry)) (replyTo (readLine name place) (now (region .entry))) ⌝ }
 {
     if !good::is_good(region) {
-        return Verdict::Refused(Refusal::BadRegion);
+        return Verdict::Refused(Answer::BAD_REGION, 0);
     }
     if name >= (region::count_names(region) as u64) {
-        return Verdict::Refused(Refusal::NotRegistered(name));
+        return Verdict::Refused(Answer::NOT_REGISTERED, name);
     }
-    let OptionLine::Line(line) = steps::find_line(region, NameNumber(name as u16), place) else {
-        return Verdict::Refused(Refusal::NothingThere);
+    let number = name as u16;
+    let OptionLine::Line(line) = steps::find_line(region, NameNumber(number), place) else {
+        return Verdict::Refused(Answer::NOTHING_THERE, 0);
     };
     Verdict::Line(line)
 }
@@ -40,10 +41,10 @@ pub fn read_row(region: &[u8], place: u64) -> Verdict
     ensures { λ r. ⌜ Replied r (now (region .entry)) (now (region .entry)) (replyTo (readRow place) (now (region .entry))) ⌝ }
 {
     if !good::is_good(region) {
-        return Verdict::Refused(Refusal::BadRegion);
+        return Verdict::Refused(Answer::BAD_REGION, 0);
     }
     if place >= (region::count_rows(region) as u64) {
-        return Verdict::Refused(Refusal::NothingThere);
+        return Verdict::Refused(Answer::NOTHING_THERE, 0);
     }
     Verdict::Row(region::row_at(region, place as usize))
 }

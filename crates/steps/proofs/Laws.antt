@@ -13,23 +13,18 @@ use borrow.Author.Tests.{lt-ltb, le-ltb, ne-eqb, not-true, not-false}
 use mir.Val.{Fits}
 use mir.Syntax.{w64}
 use Rattle.target.specs.declared.NameNumber.{NameNumber}
-use Rattle.transaction.specs.declared.PackedRefs.{PackedRefs}
-use Rattle.transaction.specs.declared.PackedRefs.the-variants.{DeletionsOnly, DeletionsAndNonSymbolicUpdates, DeletionsAndNonSymbolicUpdatesRemoveLooseSourceReference}
-use Rattle.transaction.specs.Fields.{packedRefsNumber}
 use Rattle.model.specs.declared.Lock.{Lock}
 use Rattle.model.specs.declared.Lock.the-variants.{Free, Foreign}
 use Rattle.model.specs.declared.Packed.the-variants as packed
 use Rattle.model.specs.declared.Line.{Line}
-use Rattle.model.specs.declared.Refusal.the-variants.{NotRegistered, WrongState}
 use Rattle.model.specs.Basic.{select}
 use Rattle.model.specs.Names.{sameBytes}
-use Rattle.model.specs.Store.{Store, Entry, Prepared, noEntry, noLine, count, entryAt, isPrepared, isId, isOf, linesOf, putLock, changeAt, changeEntry, withEntries, withPackedLock}
+use Rattle.model.specs.Store.{Store, Entry, noEntry, noLine, count, entryAt, isId, isOf, linesOf, putLock, changeAt, changeEntry, withEntries, withPackedLock}
 use Rattle.model.specs.Load.{numberFrom}
 use Rattle.model.specs.Commit.{freed, released}
-use Rattle.region.specs.Region.{view, modeByte, unprepared, Laid, Became}
-use Rattle.steps.specs.declared.Ready.the-variants.{Go, Stop}
+use Rattle.region.specs.Region.{view, unprepared, Laid, Became}
 use Rattle.steps.specs.declared.Turned.the-variants as turned
-use Rattle.steps.specs.Steps.{readyFor, packedBy, placedOn, liftedFrom, freeNames, lineAmong, leftAfter}
+use Rattle.steps.specs.Steps.{packedBy, placedOn, liftedFrom, freeNames, lineAmong, leftAfter}
 
 -- one element more
 next : {A : Type 0} (xs : List A) (d : A) (i n : ℕ) → n ≡ length xs → i < n → drop i xs ≡ getD xs i d ∷ drop (i + 1) xs
@@ -54,37 +49,6 @@ module _ (name : List ℕ) (xs : List Entry) (i n : ℕ) (z : Option ℕ) (h : n
       rw (drop-of-length-le xs b) at h
 
 -- ---- loads
-
-mode-positive : (m : PackedRefs) → packedRefsNumber m ≡ 0 → ⊥
-mode-positive DeletionsOnly e = omega arith
-mode-positive DeletionsAndNonSymbolicUpdates e = omega arith
-mode-positive DeletionsAndNonSymbolicUpdatesRemoveLooseSourceReference e = omega arith
-
-is-prepared : (p : Option Prepared) → (modeByte p ≡ 0 → ⊥) → isPrepared p ≡ true
-is-prepared none h = absurd (h refl)
-is-prepared (some p) h = refl
-
-not-prepared : (p : Option Prepared) → modeByte p ≡ 0 → isPrepared p ≡ false
-not-prepared none h = refl
-not-prepared (some p) h = absurd (mode-positive (p .mode) h)
-
-module _ (n : ℕ) (s : Store) (m : ℕ) (e : m ≡ modeByte (s .prepared)) where
-  pub ready-prepared : (m ≡ 0 → ⊥) → Stop WrongState ≡ readyFor n s
-  unfolding readyFor
-  ready-prepared h = rw (is-prepared (s .prepared) (λ (q : modeByte (s .prepared) ≡ 0). h (e ∙ q)))
-
-  module _ (h : m ≡ 0) (k : ℕ) (ek : k ≡ count s) where
-    pub ready-far : k ≤ n → Stop (NotRegistered n) ≡ readyFor n s
-    unfolding readyFor
-    ready-far l =
-        let b : count s ≤ n = rw ek at l in
-        rw (not-prepared (s .prepared) (sym e ∙ h), le-ltb n (count s) b)
-
-    pub ready-go : n < k → Go ≡ readyFor n s
-    unfolding readyFor
-    ready-go l =
-        let b : n < count s = rw ek at l in
-        rw (not-prepared (s .prepared) (sym e ∙ h), lt-ltb n (count s) b)
 
 -- a number of 64 bits that is not 0 is an object's
 is-id : (x : ℕ) → Fits w64 x → (x ≡ 0 → ⊥) → isId x ≡ true

@@ -10,13 +10,10 @@ use Rattle.model.specs.declared.Lock.the-variants.{Free, Foreign, Ours}
 use Rattle.model.specs.declared.Packed.{Packed}
 use Rattle.model.specs.declared.Packed.the-variants as packed
 use Rattle.model.specs.declared.Line.{Line}
-use Rattle.model.specs.declared.Refusal.the-variants.{NotRegistered, WrongState}
-use Rattle.model.specs.Store.{Store, Entry, noLine, count, isPrepared, isId, putLock, changeEntry}
+use Rattle.model.specs.Store.{Store, Entry, noLine, isId, putLock, changeEntry}
 use Rattle.model.specs.Commit.{freed}
 use Rattle.steps.specs.declared.Found.{Found}
 use Rattle.steps.specs.declared.Found.the-variants.{Nowhere, At}
-use Rattle.steps.specs.declared.Ready.{Ready}
-use Rattle.steps.specs.declared.Ready.the-variants.{Go, Stop}
 use Rattle.steps.specs.declared.OptionPacked.{OptionPacked}
 use Rattle.steps.specs.declared.OptionPacked.the-variants as optionPacked
 use Rattle.steps.specs.declared.OptionLine.{OptionLine}
@@ -31,10 +28,6 @@ foundOption Nowhere = none
 foundOption (At n) = some n
 
 -- ---- loads
-
--- 15, then 3
-unfoldable pub readyFor : ℕ → Store → Ready
-readyFor n s = cond (isPrepared (s .prepared)) (Stop WrongState) (cond (ltb n (count s)) Go (Stop (NotRegistered n)))
 
 abbrev pub packedBy : Bool → ℕ → ℕ → Option Packed
 packedBy packable zero x = cond (eqb x 0) (some packed.None) none

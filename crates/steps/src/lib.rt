@@ -7,13 +7,12 @@ ghost use Rattle.model.specs.Read.{looseOr, packedValue};
 ghost use Rattle.model.specs.Commit.{freed, released};
 ghost use Rattle.model.specs.Load.{numberFrom};
 ghost use Rattle.region.specs.Region.{view, Laid, Became};
-ghost use Rattle.steps.specs.Steps.{foundOption, readyFor, packedBy, packedOption, placedOn, liftedFrom, freeNames};
+ghost use Rattle.steps.specs.Steps.{foundOption, packedBy, packedOption, placedOn, liftedFrom, freeNames};
 ghost use Rattle.steps.specs.Steps.{lineOption, lineAmong, leftAfter};
 use model::Line;
 use model::Lock;
 use model::Loose;
 use model::Packed;
-use model::Refusal;
 use target::NameNumber;
 use target::ObjectNumber;
 use target::OptionTarget;
@@ -45,25 +44,6 @@ pub fn find_name(region: &[u8], name: &[u8]) -> Found
 }
 
 // ---- loads
-
-// 15 and 3: nothing is prepared, and the name is registered.
-pub enum Ready {
-    Go,
-    Stop(Refusal),
-}
-
-pub fn ready_to_load(region: &[u8], name: u64) -> Ready
-    requires { ⌜ Laid (now region) ⌝ }
-    ensures { λ r. ⌜ r ≡ readyFor name (view (now (region .entry))) ⌝ }
-{
-    if region::mode_number(region) != 0 {
-        return Ready::Stop(Refusal::WrongState);
-    }
-    if name >= (region::count_names(region) as u64) {
-        return Ready::Stop(Refusal::NotRegistered(name));
-    }
-    Ready::Go
-}
 
 // A packed value of a kind and a number, on a name that is packable or not.
 pub enum OptionPacked {

@@ -23,9 +23,6 @@ enum-told-6 c = search needs
 enum-known-verdict : tie.Need-enum-known-verdict
 enum-known-verdict c = search needs
 
-refusal-number-requires : tie.Need-refusal-number-requires
-refusal-number-requires c κs = search needs
-
 returns : tie.Need-returns
 returns c = search needs
 
@@ -45,7 +42,7 @@ returns-6 : tie.Need-returns-6
 returns-6 c = search needs
 
 returns-7 : tie.Need-returns-7
-returns-7 c = simp (c .before .before .verdict .given .1) (c .refusal-number .ensures)
+returns-7 c = search needs
 
 pub number-of-spec : {M : Type 1} → statement M
 number-of-spec =
@@ -58,7 +55,6 @@ number-of-spec =
     enum-told-5
     enum-told-6
     enum-known-verdict
-    refusal-number-requires
     returns
     returns-2
     returns-3

@@ -47,8 +47,8 @@ row-places-requires c κs = search needs
 enum-known-verdict-6 : tie.Need-enum-known-verdict-6
 enum-known-verdict-6 c = search needs
 
-refusal-places-requires : tie.Need-refusal-places-requires
-refusal-places-requires c κs = search needs
+one-place-requires-3 : tie.Need-one-place-requires-3
+one-place-requires-3 c κs = search needs
 
 returns : tie.Need-returns
 returns c = simp (c .before .enum-told .given .1) (c .one-place .ensures)
@@ -69,7 +69,7 @@ returns-6 : tie.Need-returns-6
 returns-6 c = simp (c .before .before .verdict5 .given .1) (c .row-places .ensures)
 
 returns-7 : tie.Need-returns-7
-returns-7 c = simp (c .before .before .verdict6 .given .1) (c .refusal-places .ensures)
+returns-7 c = simp (c .before .before .verdict6 .given .1) (c .one-place3 .ensures)
 
 pub places-of-spec : {M : Type 1} → statement M
 places-of-spec =
@@ -90,7 +90,7 @@ places-of-spec =
     enum-known-verdict-5
     row-places-requires
     enum-known-verdict-6
-    refusal-places-requires
+    one-place-requires-3
     returns
     returns-2
     returns-3

@@ -1,6 +1,7 @@
 use borrow.Author.Needs.{needs}
 use Rattle.calls.proofs.Replies.{good-laid, bad-region}
-use Rattle.loads.proofs.Laws.{ready-near, loose-room, loose-stop, loose-stray, loose-bad, loose-done}
+use Rattle.calls.proofs.Known.{near}
+use Rattle.loads.proofs.Laws.{loose-room, loose-busy, loose-far, loose-stray, loose-bad, loose-done}
 use Rattle.loads.proofs.load_loose.Statement.{statement}
 use Rattle.loads.proofs.load_loose.Tie as tie
 
@@ -13,32 +14,36 @@ same-length c = search needs
 returns : tie.Need-returns
 returns c = search bad-region
 
-ready-to-load-requires : tie.Need-ready-to-load-requires
-ready-to-load-requires c κs = search good-laid
-
-enum-known-refusal : tie.Need-enum-known-refusal
-enum-known-refusal c = search needs
+mode-number-requires : tie.Need-mode-number-requires
+mode-number-requires c κs = search good-laid
 
 same-length-2 : tie.Need-same-length-2
 same-length-2 c = search needs
 
 returns-2 : tie.Need-returns-2
-returns-2 c = search loose-stop
+returns-2 c = search loose-busy
 
-enum-told : tie.Need-enum-told
-enum-told c = search needs
-
-is-stray-link-requires : tie.Need-is-stray-link-requires
-is-stray-link-requires c κs = search good-laid
+count-names-requires : tie.Need-count-names-requires
+count-names-requires c κs = search good-laid
 
 same-length-3 : tie.Need-same-length-3
 same-length-3 c = search needs
 
 returns-3 : tie.Need-returns-3
-returns-3 c =
-    let ready = c .before .before .before in
-    let tested = ready .before .before .before .before in
-    loose-stray _ _ _ _ _ (tested .before .is-good .ensures) (tested .if1 .left) _ (ready .before .before .ready-to-load .ensures) (ready .enum-told .given .1) _ (c .before .is-stray-link .ensures) (c .if2 .taken)
+returns-3 c = search loose-far
+
+is-stray-link-requires : tie.Need-is-stray-link-requires
+is-stray-link-requires c κs = search good-laid
+
+same-length-4 : tie.Need-same-length-4
+same-length-4 c = search needs
+
+returns-4 : tie.Need-returns-4
+returns-4 c =
+    let named = c .before .before .before in
+    let idle = named .before .before .before in
+    let tested = idle .before .before .before in
+    loose-stray _ _ _ _ _ (tested .before .is-good .ensures) (tested .if1 .left) _ (idle .before .mode-number .ensures) (idle .if2 .left) _ (named .before .count-names .ensures) (named .if3 .left) _ (c .before .is-stray-link .ensures) (c .if4 .taken)
 
 loose-from-requires : tie.Need-loose-from-requires
 loose-from-requires c κs = search needs
@@ -46,25 +51,25 @@ loose-from-requires c κs = search needs
 enum-known-value : tie.Need-enum-known-value
 enum-known-value c = search needs
 
-enum-told-2 : tie.Need-enum-told-2
-enum-told-2 c = search needs
-
-same-length-4 : tie.Need-same-length-4
-same-length-4 c = search needs
-
-returns-4 : tie.Need-returns-4
-returns-4 c = search loose-bad
-
-put-loose-at-requires : tie.Need-put-loose-at-requires
-put-loose-at-requires c κs =
-    let ready = c .before .before .before .before .before .before .before .before in
-    (search good-laid, (ready-near _ _ _ (ready .before .before .ready-to-load .ensures) (ready .enum-told .given .1), search loose-room))
+enum-told : tie.Need-enum-told
+enum-told c = search needs
 
 same-length-5 : tie.Need-same-length-5
 same-length-5 c = search needs
 
 returns-5 : tie.Need-returns-5
-returns-5 c = search loose-done
+returns-5 c = search loose-bad
+
+put-loose-at-requires : tie.Need-put-loose-at-requires
+put-loose-at-requires c κs =
+    let named = c .before .before .before .before .before .before .before .before in
+    (search good-laid, (near _ _ _ (named .before .count-names .ensures) (named .if3 .left), search loose-room))
+
+same-length-6 : tie.Need-same-length-6
+same-length-6 c = search needs
+
+returns-6 : tie.Need-returns-6
+returns-6 c = search loose-done
 
 pub load-loose-spec : {M : Type 1} → statement M
 load-loose-spec =
@@ -73,19 +78,20 @@ load-loose-spec =
     is-good-requires
     same-length
     returns
-    ready-to-load-requires
-    enum-known-refusal
+    mode-number-requires
     same-length-2
     returns-2
-    enum-told
-    is-stray-link-requires
+    count-names-requires
     same-length-3
     returns-3
-    loose-from-requires
-    enum-known-value
-    enum-told-2
+    is-stray-link-requires
     same-length-4
     returns-4
-    put-loose-at-requires
+    loose-from-requires
+    enum-known-value
+    enum-told
     same-length-5
-    returns-5)
+    returns-5
+    put-loose-at-requires
+    same-length-6
+    returns-6)

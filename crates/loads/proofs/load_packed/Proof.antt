@@ -1,6 +1,7 @@
 use borrow.Author.Needs.{needs}
 use Rattle.calls.proofs.Replies.{good-laid, bad-region}
-use Rattle.loads.proofs.Laws.{ready-near, packed-room, packed-stop, packed-bad, packed-done}
+use Rattle.calls.proofs.Known.{near}
+use Rattle.loads.proofs.Laws.{packed-room, packed-busy, packed-far, packed-bad, packed-done}
 use Rattle.loads.proofs.load_packed.Statement.{statement}
 use Rattle.loads.proofs.load_packed.Tie as tie
 
@@ -13,23 +14,26 @@ same-length c = search needs
 returns : tie.Need-returns
 returns c = search bad-region
 
-ready-to-load-requires : tie.Need-ready-to-load-requires
-ready-to-load-requires c κs = search good-laid
-
-enum-known-refusal : tie.Need-enum-known-refusal
-enum-known-refusal c = search needs
+mode-number-requires : tie.Need-mode-number-requires
+mode-number-requires c κs = search good-laid
 
 same-length-2 : tie.Need-same-length-2
 same-length-2 c = search needs
 
 returns-2 : tie.Need-returns-2
-returns-2 c = search packed-stop
+returns-2 c = search packed-busy
 
-enum-told : tie.Need-enum-told
-enum-told c = search needs
+count-names-requires : tie.Need-count-names-requires
+count-names-requires c κs = search good-laid
+
+same-length-3 : tie.Need-same-length-3
+same-length-3 c = search needs
+
+returns-3 : tie.Need-returns-3
+returns-3 c = search packed-far
 
 name-at-requires : tie.Need-name-at-requires
-name-at-requires c κs = (search good-laid, ready-near _ _ _ (c .before .before .before .ready-to-load .ensures) (c .before .enum-told .given .1))
+name-at-requires c κs = (search good-laid, near _ _ _ (c .before .before .count-names .ensures) (c .before .if3 .left))
 
 is-packable-requires : tie.Need-is-packable-requires
 is-packable-requires c κs = search needs
@@ -40,25 +44,25 @@ packed-of-requires c κs = search needs
 enum-known-value : tie.Need-enum-known-value
 enum-known-value c = search needs
 
-enum-told-2 : tie.Need-enum-told-2
-enum-told-2 c = search needs
-
-same-length-3 : tie.Need-same-length-3
-same-length-3 c = search needs
-
-returns-3 : tie.Need-returns-3
-returns-3 c = search packed-bad
-
-put-packed-at-requires : tie.Need-put-packed-at-requires
-put-packed-at-requires c κs =
-    let ready = c .before .before .before .before .before .before .before .before in
-    (search good-laid, (ready-near _ _ _ (ready .before .before .ready-to-load .ensures) (ready .enum-told .given .1), search packed-room))
+enum-told : tie.Need-enum-told
+enum-told c = search needs
 
 same-length-4 : tie.Need-same-length-4
 same-length-4 c = search needs
 
 returns-4 : tie.Need-returns-4
-returns-4 c = search packed-done
+returns-4 c = search packed-bad
+
+put-packed-at-requires : tie.Need-put-packed-at-requires
+put-packed-at-requires c κs =
+    let named = c .before .before .before .before .before .before .before .before in
+    (search good-laid, (near _ _ _ (named .before .count-names .ensures) (named .if3 .left), search packed-room))
+
+same-length-5 : tie.Need-same-length-5
+same-length-5 c = search needs
+
+returns-5 : tie.Need-returns-5
+returns-5 c = search packed-done
 
 pub load-packed-spec : {M : Type 1} → statement M
 load-packed-spec =
@@ -67,18 +71,19 @@ load-packed-spec =
     is-good-requires
     same-length
     returns
-    ready-to-load-requires
-    enum-known-refusal
+    mode-number-requires
     same-length-2
     returns-2
-    enum-told
+    count-names-requires
+    same-length-3
+    returns-3
     name-at-requires
     is-packable-requires
     packed-of-requires
     enum-known-value
-    enum-told-2
-    same-length-3
-    returns-3
-    put-packed-at-requires
+    enum-told
     same-length-4
-    returns-4)
+    returns-4
+    put-packed-at-requires
+    same-length-5
+    returns-5)

@@ -16,8 +16,8 @@ count-names-requires c κs = search good-laid
 returns-2 : tie.Need-returns-2
 returns-2 c = search line-far
 
-cast-t12 : tie.Need-cast-t12
-cast-t12 c = search near-fits
+cast-number : tie.Need-cast-number
+cast-number c = search near-fits
 
 find-line-requires : tie.Need-find-line-requires
 find-line-requires c κs = search good-laid
@@ -42,7 +42,7 @@ read-line-spec =
     returns
     count-names-requires
     returns-2
-    cast-t12
+    cast-number
     find-line-requires
     enum-known-line
     enum-told
