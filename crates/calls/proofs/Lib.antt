@@ -2,3 +2,4 @@ pub mod Replies
 pub mod Laws
 pub mod Known
 pub mod Exports
+pub mod Turns

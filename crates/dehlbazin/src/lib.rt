@@ -109,7 +109,7 @@ pub extern "C" fn dehlbazin_lock_packed(region: &mut [u8], answer: &mut [u8]) ->
     if answer.len() != Answer::SIZE {
         return 1;
     }
-    let verdict = locks::lock_packed(region);
+    let verdict = table_lock::lock_packed(region);
     answers::finish(answer, verdict)
 }
 
@@ -121,7 +121,7 @@ pub extern "C" fn dehlbazin_unlock_packed(region: &mut [u8], answer: &mut [u8]) 
     if answer.len() != Answer::SIZE {
         return 1;
     }
-    let verdict = locks::unlock_packed(region);
+    let verdict = table_lock::unlock_packed(region);
     answers::finish(answer, verdict)
 }
 

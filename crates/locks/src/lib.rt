@@ -1,5 +1,5 @@
-// Foreign locks: placed on a name or on the packed table, and lifted from it.
-ghost use Rattle.model.specs.Reply.Call.{lockName, unlockName, lockPacked, unlockPacked};
+// Foreign locks on names: placed and lifted. Those on the packed table stand in crate table_lock.
+ghost use Rattle.model.specs.Reply.Call.{lockName, unlockName};
 ghost use Rattle.calls.specs.Call.{replyTo, Replied};
 use answers::Answer;
 use answers::Verdict;
@@ -38,33 +38,5 @@ pub fn unlock_name(region: &mut [u8], name: u64) -> Verdict
         return Verdict::Refused(Answer::WRONG_LOCK, 0);
     };
     region::put_lock_at(region, n, lifted);
-    Verdict::Done
-}
-
-pub fn lock_packed(region: &mut [u8]) -> Verdict
-    ensures { λ r. ⌜ Replied r (now (region .entry)) (now (region .exit)) (replyTo lockPacked (now (region .entry))) ⌝ }
-{
-    if !good::is_good(region) {
-        return Verdict::Refused(Answer::BAD_REGION, 0);
-    }
-    let table = region::packed_lock(region);
-    let Turned::Becomes(placed) = steps::place_on(table) else {
-        return Verdict::Refused(Answer::WRONG_LOCK, 0);
-    };
-    region::put_packed_lock(region, placed);
-    Verdict::Done
-}
-
-pub fn unlock_packed(region: &mut [u8]) -> Verdict
-    ensures { λ r. ⌜ Replied r (now (region .entry)) (now (region .exit)) (replyTo unlockPacked (now (region .entry))) ⌝ }
-{
-    if !good::is_good(region) {
-        return Verdict::Refused(Answer::BAD_REGION, 0);
-    }
-    let table = region::packed_lock(region);
-    let Turned::Becomes(lifted) = steps::lift_from(table) else {
-        return Verdict::Refused(Answer::WRONG_LOCK, 0);
-    };
-    region::put_packed_lock(region, lifted);
     Verdict::Done
 }

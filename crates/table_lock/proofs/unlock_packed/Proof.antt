@@ -1,8 +1,8 @@
 use borrow.Author.Needs.{needs}
 use Rattle.calls.proofs.Replies.{good-laid, bad-region}
-use Rattle.locks.proofs.Laws.{lock-packed-no, lock-packed-done}
-use Rattle.locks.proofs.lock_packed.Statement.{statement}
-use Rattle.locks.proofs.lock_packed.Tie as tie
+use Rattle.table_lock.proofs.Laws.{unlock-packed-no, unlock-packed-done}
+use Rattle.table_lock.proofs.unlock_packed.Statement.{statement}
+use Rattle.table_lock.proofs.unlock_packed.Tie as tie
 
 is-good-requires : tie.Need-is-good-requires
 is-good-requires c κs = search needs
@@ -16,11 +16,11 @@ returns c = search bad-region
 packed-lock-requires : tie.Need-packed-lock-requires
 packed-lock-requires c κs = search good-laid
 
-place-on-requires : tie.Need-place-on-requires
-place-on-requires c κs = search needs
+lift-from-requires : tie.Need-lift-from-requires
+lift-from-requires c κs = search needs
 
-enum-known-placed : tie.Need-enum-known-placed
-enum-known-placed c = search needs
+enum-known-lifted : tie.Need-enum-known-lifted
+enum-known-lifted c = search needs
 
 enum-told : tie.Need-enum-told
 enum-told c = search needs
@@ -29,7 +29,7 @@ same-length-2 : tie.Need-same-length-2
 same-length-2 c = search needs
 
 returns-2 : tie.Need-returns-2
-returns-2 c = search lock-packed-no
+returns-2 c = search unlock-packed-no
 
 put-packed-lock-requires : tie.Need-put-packed-lock-requires
 put-packed-lock-requires c κs = search good-laid
@@ -38,18 +38,18 @@ same-length-3 : tie.Need-same-length-3
 same-length-3 c = search needs
 
 returns-3 : tie.Need-returns-3
-returns-3 c = search lock-packed-done
+returns-3 c = search unlock-packed-done
 
-pub lock-packed-spec : {M : Type 1} → statement M
-lock-packed-spec =
+pub unlock-packed-spec : {M : Type 1} → statement M
+unlock-packed-spec =
     tie.close
     (tie.spec
     is-good-requires
     same-length
     returns
     packed-lock-requires
-    place-on-requires
-    enum-known-placed
+    lift-from-requires
+    enum-known-lifted
     enum-told
     same-length-2
     returns-2
