@@ -1,15 +1,15 @@
 -- What the rules say of one row. Assumes nothing.
 use mathlib.Core.Path.{_≡_}
-use mathlib.Core.Bool.{Bool, true, not}
-use mathlib.Core.List.{List, [], _∷_}
+use mathlib.Core.Bool.{true}
+use mathlib.Core.List.{List}
 use Prim.Native.Nat.{ℕ, _<_, _^_}
-use lib.ListN.{length, getD}
-use lib.Dec.{ltb, leb}
+use lib.ListN.{getD}
+use lib.Dec.{ltb}
 use borrow.Author.Tests.{ltb-true}
 use Rattle.transaction.specs.declared.Edit.{Edit}
 use Rattle.transaction.specs.Change.{newValue, previousValue, messageOf}
-use Rattle.model.specs.Rows.{nameIn, changeIn, rowAt, ancestors}
-use Rattle.model.specs.Fine.{fineOption, fineParent, fineRow}
+use Rattle.model.specs.Rows.{nameIn, changeIn, rowAt}
+use Rattle.model.specs.Fine.{fineOption, rowTests, fineRow}
 use Rattle.model.proofs.Rules.{every-at}
 
 -- what the rules say of a row that its writes are made of
@@ -25,23 +25,8 @@ unfolding fineRow
 row-edit n rows i h =
     record { name = at 0; message = at 2; previous = at 3; new = at 4; leaf = at 7 }
   where
-    r : Edit
-    r = rowAt rows i
-
-    tests : List Bool
-    tests =
-        ltb (nameIn r .0) n
-        ∷ not (r .update .deref)
-        ∷ ltb (messageOf (changeIn r)) (2 ^ 16)
-        ∷ fineOption n (previousValue (changeIn r))
-        ∷ fineOption n (newValue (changeIn r))
-        ∷ fineParent i (r .«parent_index»)
-        ∷ leb (length (ancestors rows i)) 4
-        ∷ ltb (r .«leaf_referent_previous_oid» .0) (2 ^ 64)
-        ∷ []
-
-    at : (k : ℕ) → getD tests k true ≡ true
-    at k = every-at tests k h
+    at : (k : ℕ) → getD (rowTests n rows i) k true ≡ true
+    at k = every-at (rowTests n rows i) k h
 
 pub row-name : (n : ℕ) (rows : List Edit) (i : ℕ) → fineRow n rows i ≡ true → nameIn (rowAt rows i) .0 < n
 row-name n rows i h = ltb-true (nameIn (rowAt rows i) .0) n (row-edit n rows i h .name)

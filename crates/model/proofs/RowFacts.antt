@@ -14,10 +14,10 @@ use Rattle.transaction.specs.Change.{newValue, isLogOnly}
 use Rattle.model.specs.declared.Packed.{Packed}
 use Rattle.model.specs.declared.Packed.the-variants as packed
 use Rattle.model.specs.Basic.{any}
-use Rattle.model.specs.Names.{isName, packable}
+use Rattle.model.specs.Names.{packable}
 use Rattle.model.specs.Store.{Store, Entry, noRow, noEntry, count, entryOf, nameOf, isId, isPacked, modeIn}
 use Rattle.model.specs.Rows.{nameIn, changeIn, rowAt, counts, countsAsUpdate, packsUpdates, isObject, opens}
-use Rattle.model.specs.Fine.{Fine, fineLoose, finePacked, fineEntry, fineRow}
+use Rattle.model.specs.Fine.{Fine, finePacked, entryTests, fineEntry, fineRow}
 use Rattle.model.specs.Reached.{Sound}
 use Rattle.model.specs.Demand3.{rows}
 use Rattle.model.proofs.Rules.{both-true, true-both, every-at}
@@ -33,7 +33,7 @@ any-at p (x ∷ xs) (suc i) d h e = rw (any-at p xs i d (omega arith) e) (or-tru
 
 fine-packed : (n : ℕ) (e : Entry) → fineEntry n e ≡ true → finePacked (e .name) (e .packed) ≡ true
 unfolding fineEntry
-fine-packed n e h = every-at (isName (e .name) ∷ fineLoose n (e .loose) ∷ finePacked (e .name) (e .packed) ∷ []) 2 h
+fine-packed n e h = every-at (entryTests n e) 2 h
 
 module _ (s : Store) (f : Fine s) where
   -- two rows have two names

@@ -2,7 +2,7 @@
 -- values, are fine. What a name reads is fine too. Assumes nothing.
 use mathlib.Core.Path.{_≡_, refl}
 use mathlib.Core.Bool.{Bool, true, false}
-use mathlib.Core.List.{List, [], _∷_}
+use mathlib.Core.List.{List}
 use Prim.Native.Nat.{ℕ, _<_, _^_}
 use native.Mathlib.Omega.{arith}
 use native.Mathlib.Decide.{decLt}
@@ -15,11 +15,10 @@ use Rattle.model.specs.declared.Loose.{Loose}
 use Rattle.model.specs.declared.Loose.the-variants as loose
 use Rattle.model.specs.declared.Packed.{Packed}
 use Rattle.model.specs.declared.Packed.the-variants as packed
-use Rattle.model.specs.Names.{isName}
 use Rattle.model.specs.Store.{Store, Entry, noRow, noEntry, count, entryOf, isId}
 use Rattle.model.specs.Read.{packedValue, looseOr, valueOf}
 use Rattle.model.specs.Rows.{nameIn, changeIn, rowAt}
-use Rattle.model.specs.Fine.{fineOption, fineLoose, finePacked, fineEntry, fineRow, Fine}
+use Rattle.model.specs.Fine.{fineOption, fineLoose, finePacked, entryTests, fineEntry, fineRow, Fine}
 use Rattle.model.specs.Prepare.{existing}
 use Rattle.model.proofs.Rules.{both-true, every-at}
 use Rattle.model.proofs.FineEdit.{FineEdit, row-edit}
@@ -48,8 +47,7 @@ module _ (n : ℕ) where
   pub value-fine : (seen : Bool) (e : Entry) → fineEntry n e ≡ true → fineOption n (valueOf seen e) ≡ true
   unfolding fineEntry
   value-fine seen e h =
-      let ts : List Bool = isName (e .name) ∷ fineLoose n (e .loose) ∷ finePacked (e .name) (e .packed) ∷ [] in
-      looseOr-fine (e .loose) _ (every-at ts 1 h) (packedValue-fine (e .name) seen (e .packed) (every-at ts 2 h))
+      looseOr-fine (e .loose) _ (every-at (entryTests n e) 1 h) (packedValue-fine (e .name) seen (e .packed) (every-at (entryTests n e) 2 h))
 
 pub existing-fine : (s : Store) → Fine s → (opened : Bool) (r : Edit) → fineOption (count s) (existing s opened r) ≡ true
 existing-fine s f opened r = go (decLt (nameIn r .0) (count s))

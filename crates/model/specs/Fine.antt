@@ -47,20 +47,25 @@ abbrev pub finePacked : List ℕ → Packed → Bool
 finePacked name packed.None = true
 finePacked name (packed.Object o) = isId (o .0) && packable name
 
+abbrev pub entryTests : ℕ → Entry → List Bool
+entryTests n e = isName (e .name) ∷ fineLoose n (e .loose) ∷ finePacked (e .name) (e .packed) ∷ []
+
 unfoldable pub fineEntry : ℕ → Entry → Bool
-fineEntry n e = every (isName (e .name) ∷ fineLoose n (e .loose) ∷ finePacked (e .name) (e .packed) ∷ [])
+fineEntry n e = every (entryTests n e)
 
 -- a line: name, previous (0 if none), new, committer 1 to 65,535, message number
-unfoldable pub fineLine : ℕ → Line → Bool
-fineLine n l =
-    every
-    (ltb (l .name .0) n
+abbrev pub lineTests : ℕ → Line → List Bool
+lineTests n l =
+    ltb (l .name .0) n
     ∷ ltb (l .previous .0) (2 ^ 64)
     ∷ isId (l .new .0)
     ∷ ltb 0 (l .committer)
     ∷ ltb (l .committer) (2 ^ 16)
     ∷ ltb (l .message) (2 ^ 16)
-    ∷ [])
+    ∷ []
+
+unfoldable pub fineLine : ℕ → Line → Bool
+fineLine n l = every (lineTests n l)
 
 -- ---- rows
 
@@ -70,10 +75,9 @@ fineParent i NoParent = true
 fineParent i (Parent j) = ltb j i
 
 -- the row at place i: no name is followed any more, and it has at most four ancestors
-unfoldable pub fineRow : ℕ → List Edit → ℕ → Bool
-fineRow n rows i =
-    every
-    (ltb (nameIn (rowAt rows i) .0) n
+abbrev pub rowTests : ℕ → List Edit → ℕ → List Bool
+rowTests n rows i =
+    ltb (nameIn (rowAt rows i) .0) n
     ∷ not (rowAt rows i .update .deref)
     ∷ ltb (messageOf (changeIn (rowAt rows i))) (2 ^ 16)
     ∷ fineOption n (previousValue (changeIn (rowAt rows i)))
@@ -81,7 +85,10 @@ fineRow n rows i =
     ∷ fineParent i (rowAt rows i .«parent_index»)
     ∷ leb (length (ancestors rows i)) 4
     ∷ ltb (rowAt rows i .«leaf_referent_previous_oid» .0) (2 ^ 64)
-    ∷ [])
+    ∷ []
+
+unfoldable pub fineRow : ℕ → List Edit → ℕ → Bool
+fineRow n rows i = every (rowTests n rows i)
 
 -- ---- locks: ours are exactly those that the rows and the opening of the packed table keep
 

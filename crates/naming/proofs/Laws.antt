@@ -13,7 +13,7 @@ use Rattle.word.proofs.Tests.{both-true, every-at}
 use Rattle.model.specs.declared.Refusal.the-variants.{NotRegistered, BadName, NamesFull}
 use Rattle.model.specs.Names.{isSpecial, isRef, isName}
 use Rattle.model.specs.Store.{count, entryAt, withEntries}
-use Rattle.model.specs.Fine.{fineLoose, finePacked, fineEntry}
+use Rattle.model.specs.Fine.{entryTests, fineEntry}
 use Rattle.model.specs.Reply.Call.{addName, nameBytes}
 use Rattle.model.specs.Reply.Reply.{refused}
 use Rattle.model.specs.Reply.Given.{number, bytesOf}
@@ -95,7 +95,7 @@ unfolding fineEntry
 name-full r n g l =
     let e = entryAt (view r) n in
     let f : fineEntry (count (view r)) e ≡ true = good-parts r g .1 .entries n l in
-    name-sized (e .name) (every-at (isName (e .name) ∷ fineLoose (count (view r)) (e .loose) ∷ finePacked (e .name) (e .packed) ∷ []) 0 f) .0
+    name-sized (e .name) (every-at (entryTests (count (view r)) e) 0 f) .0
 
 module _ (n : ℕ) (r p : List ℕ) (e : p ≡ namePart n r) where
   full-known : (length p ≡ 0 → ⊥) → (good r ≡ true) × (n < count (view r))

@@ -20,7 +20,7 @@ use Rattle.target.specs.declared.OptionTarget.the-variants.{Absent, Present}
 use Rattle.transaction.specs.declared.ParentIndex.{ParentIndex}
 use Rattle.transaction.specs.declared.ParentIndex.the-variants.{NoParent, Parent}
 use Rattle.transaction.specs.declared.Edit.{Edit}
-use Rattle.transaction.specs.Change.{newValue, previousValue, messageOf}
+use Rattle.transaction.specs.Change.{newValue, previousValue}
 use Rattle.model.specs.declared.Loose.{Loose}
 use Rattle.model.specs.declared.Loose.the-variants as loose
 use Rattle.model.specs.declared.Packed.{Packed}
@@ -29,8 +29,8 @@ use Rattle.model.specs.declared.Line.{Line}
 use Rattle.model.specs.Basic.{text, all, isEmpty}
 use Rattle.model.specs.Names.{isName, isSpecial, isRef, isComponent, isComponentByte, isUpper, between, isChar, begins, under, components, grow, endsIn, holds}
 use Rattle.model.specs.Store.{Store, Entry, count, entryAt, noLine, rowsIn, isId}
-use Rattle.model.specs.Rows.{rowAt, nameIn, changeIn, ancestors}
-use Rattle.model.specs.Fine.{Fine, fineTarget, fineOption, fineLoose, finePacked, fineEntry, fineLine, fineParent, fineRow}
+use Rattle.model.specs.Rows.{rowAt, nameIn, changeIn}
+use Rattle.model.specs.Fine.{Fine, entryTests, lineTests, rowTests, fineTarget, fineOption, fineLoose, finePacked, fineEntry, fineLine, fineParent, fineRow}
 use Rattle.slots.specs.Values.{FitsTarget, FitsLoose, FitsPacked, FitsLine}
 use Rattle.slots.specs.Row.{FitsRow, FitsOption, FitsParent}
 
@@ -143,32 +143,6 @@ name-fits n e =
     }
 
 -- ---- values: a link's number is below the count of names
-
--- the rules' tests, as lists
-abbrev entryTests : ℕ → Entry → List Bool
-entryTests n e = isName (e .name) ∷ fineLoose n (e .loose) ∷ finePacked (e .name) (e .packed) ∷ []
-
-abbrev lineTests : ℕ → Line → List Bool
-lineTests n l =
-    ltb (l .name .0) n
-    ∷ ltb (l .previous .0) (2 ^ 64)
-    ∷ isId (l .new .0)
-    ∷ ltb 0 (l .committer)
-    ∷ ltb (l .committer) (2 ^ 16)
-    ∷ ltb (l .message) (2 ^ 16)
-    ∷ []
-
-abbrev rowTests : ℕ → List Edit → ℕ → List Bool
-rowTests n rows i =
-    ltb (nameIn (rowAt rows i) .0) n
-    ∷ not (rowAt rows i .update .deref)
-    ∷ ltb (messageOf (changeIn (rowAt rows i))) (2 ^ 16)
-    ∷ fineOption n (previousValue (changeIn (rowAt rows i)))
-    ∷ fineOption n (newValue (changeIn (rowAt rows i)))
-    ∷ fineParent i (rowAt rows i .«parent_index»)
-    ∷ leb (length (ancestors rows i)) 4
-    ∷ ltb (rowAt rows i .«leaf_referent_previous_oid» .0) (2 ^ 64)
-    ∷ []
 
 module _ (n : ℕ) (few : n ≤ 256) where
   link-fits : (m : ℕ) → ltb m n ≡ true → m < 2 ^ 16

@@ -29,9 +29,9 @@ use Rattle.model.specs.declared.Packed.the-variants as packed
 use Rattle.model.specs.declared.Line.{Line}
 use Rattle.model.specs.Basic.{every, below}
 use Rattle.model.specs.Names.{isName, packable}
-use Rattle.model.specs.Store.{Store, Entry, count, entryAt, noLine, noRow, rowsIn, isId}
+use Rattle.model.specs.Store.{Store, count, entryAt, noLine, noRow, rowsIn, isId}
 use Rattle.model.specs.Rows.{nameIn, changeIn, rowAt, climb, ancestors}
-use Rattle.model.specs.Fine.{fineTarget, fineOption, fineLoose, finePacked, fineEntry, fineLine, fineParent, fineRow, apartNames, apartRows, tests}
+use Rattle.model.specs.Fine.{entryTests, lineTests, rowTests, fineTarget, fineOption, fineLoose, finePacked, fineEntry, fineLine, fineParent, fineRow, apartNames, apartRows, tests}
 use Rattle.slots.specs.Row.{FitsRow}
 use Rattle.region.specs.Region.{view, Laid}
 use Rattle.region.proofs.Decode.{laid-image}
@@ -84,9 +84,6 @@ pub packed-object : (name : List ℕ) (v : Packed) (o : ObjectNumber) (b : Bool)
 packed-object name v o b e h f g =
     let i : isId (o .0) ≡ true = sym (is-id (o .0) f) ∙ rw (ne-eqb (o .0) 0 h) in rw (e, i) g
 
-abbrev entryTests : ℕ → Entry → List Bool
-entryTests n e = isName (e .name) ∷ fineLoose n (e .loose) ∷ finePacked (e .name) (e .packed) ∷ []
-
 module _ (s : Store) (n : ℕ) (name : List ℕ) (b : Bool) (e : name ≡ entryAt s n .name) (f : b ≡ isName name) where
   pub entry-name : not b ≡ true → false ≡ fineEntry (count s) (entryAt s n)
   unfolding fineEntry
@@ -122,16 +119,6 @@ module _ (s : Store) (n m : ℕ) (a b : List ℕ) (t : Bool) (p : a ≡ entryAt 
   name-stop h f = sym (below-false n (apartNames s n) m h (same-names ∙ ap not f))
 
 -- ---- lines
-
-abbrev lineTests : ℕ → Line → List Bool
-lineTests n l =
-    ltb (l .name .0) n
-    ∷ ltb (l .previous .0) (2 ^ 64)
-    ∷ isId (l .new .0)
-    ∷ ltb 0 (l .committer)
-    ∷ ltb (l .committer) (2 ^ 16)
-    ∷ ltb (l .message) (2 ^ 16)
-    ∷ []
 
 pub line-name : (n : ℕ) (l : Line) → n ≤ l .name .0 → false ≡ fineLine n l
 unfolding fineLine
@@ -202,18 +189,6 @@ climb-up (suc k) rows p j m row h e q f =
     let d : suc k - 1 ≡ k = omega arith in
     let g : m ≡ length (climb k rows (rowAt rows j .«parent_index»)) = rw (d, q) at (f .0) in
     (rw e (let z : 1 + m ≡ suc m = omega arith in z ∙ ap suc g), omega arith)
-
-abbrev rowTests : ℕ → List Edit → ℕ → List Bool
-rowTests n rows i =
-    ltb (nameIn (rowAt rows i) .0) n
-    ∷ not (rowAt rows i .update .deref)
-    ∷ ltb (messageOf (changeIn (rowAt rows i))) (2 ^ 16)
-    ∷ fineOption n (previousValue (changeIn (rowAt rows i)))
-    ∷ fineOption n (newValue (changeIn (rowAt rows i)))
-    ∷ fineParent i (rowAt rows i .«parent_index»)
-    ∷ leb (length (ancestors rows i)) 4
-    ∷ ltb (rowAt rows i .«leaf_referent_previous_oid» .0) (2 ^ 64)
-    ∷ []
 
 module _ (n k i : ℕ) (rows : List Edit) (row : Edit) (q : k ≡ n) (e : row ≡ rowAt rows i) where
   pub row-name : k ≤ row .update .name .0 → false ≡ fineRow n rows i
