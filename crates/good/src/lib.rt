@@ -16,7 +16,7 @@ pub fn is_fine(region: &[u8]) -> bool
     if !kept::packed_lock_fine(region) {
         return false;
     }
-    let due = kept::count_due(region);
+    let due = due::count_due(region);
     if due > 1024 {
         return false;
     }

@@ -10,7 +10,8 @@ use Rattle.model.specs.Basic.{any}
 use Rattle.model.specs.Store.{rowsIn}
 use Rattle.model.specs.Rows.{nameIn, keepsLock}
 use Rattle.model.specs.Fine.{keptFor}
-use Rattle.kept.proofs.Laws.{kept-start, any-more, any-here, any-end}
+use Rattle.opened.proofs.Laws.{any-more, any-here, any-end}
+use Rattle.kept.proofs.Laws.{kept-start}
 use Rattle.kept.proofs.kept_for.Statement.{statement}
 use Rattle.kept.proofs.kept_for.Tie as tie
 

@@ -1,0 +1,53 @@
+use borrow.Author.Needs.{needs}
+use Rattle.due.proofs.Lines.{logged-never, logged-lines, logged-forced, logged-last}
+use Rattle.due.proofs.is_logged.Statement.{statement}
+use Rattle.due.proofs.is_logged.Tie as tie
+
+setting-requires : tie.Need-setting-requires
+setting-requires c κs = search needs
+
+is-disabled-requires : tie.Need-is-disabled-requires
+is-disabled-requires c κs = search needs
+
+returns : tie.Need-returns
+returns c = search logged-never
+
+has-lines-requires : tie.Need-has-lines-requires
+has-lines-requires c κs = search needs
+
+returns-2 : tie.Need-returns-2
+returns-2 c = search logged-lines
+
+is-forced-requires : tie.Need-is-forced-requires
+is-forced-requires c κs = search needs
+
+returns-3 : tie.Need-returns-3
+returns-3 c = search logged-forced
+
+cast-n : tie.Need-cast-n
+cast-n c = search needs
+
+name-at-requires : tie.Need-name-at-requires
+name-at-requires c κs = search needs
+
+is-logged-requires : tie.Need-is-logged-requires
+is-logged-requires c κs = search needs
+
+returns-4 : tie.Need-returns-4
+returns-4 c = search logged-last
+
+pub is-logged-spec : {M : Type 1} → statement M
+is-logged-spec =
+    tie.close
+    (tie.spec
+    setting-requires
+    is-disabled-requires
+    returns
+    has-lines-requires
+    returns-2
+    is-forced-requires
+    returns-3
+    cast-n
+    name-at-requires
+    is-logged-requires
+    returns-4)
