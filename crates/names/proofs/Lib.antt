@@ -1,4 +1,3 @@
-pub mod Bytes
 pub mod Classes
 pub mod Components
 pub mod Syntax

@@ -1,73 +1,12 @@
-// Names: which byte strings are one, which names are packable and which are logged, and their order.
+// Names: which byte strings are one, which names are packable and which are logged.
 // Every answer is that of a definition of crates/model/specs/Names.antt.
 use model::WriteReflog;
 use target::NameNumber;
 ghost use mathlib.Core.Path.{_≡_};
 ghost use Rattle.model.specs.Basic.{all};
-ghost use Rattle.model.specs.Names.{begins, within, before, isUpper, isSpecial, isComponentByte, isComponent};
+ghost use Rattle.model.specs.Names.{isUpper, isSpecial, isComponentByte, isComponent};
 ghost use Rattle.model.specs.Names.{components, isRef, isName, packable, logs};
-ghost use Rattle.names.specs.Parts.{ends, toSlash};
-
-// The name begins with the prefix.
-pub fn begins_with(name: &[u8], prefix: &[u8]) -> bool
-    ensures { λ r. ⌜ r ≡ begins (now (prefix .entry)) (now (name .entry)) ⌝ }
-{
-    let mut i: usize = 0;
-    while i < prefix.len() {
-        if name.len() <= i {
-            return false;
-        }
-        if prefix[i] != name[i] {
-            return false;
-        }
-        i += 1;
-    }
-    true
-}
-
-// The name ends with the suffix.
-fn ends_with(name: &[u8], suffix: &[u8]) -> bool
-    ensures { λ r. ⌜ r ≡ ends (now (suffix .entry)) (now (name .entry)) ⌝ }
-{
-    if name.len() < suffix.len() {
-        return false;
-    }
-    let start = name.len() - suffix.len();
-    word::same(suffix, &name[start..])
-}
-
-// The part stands somewhere in the name.
-fn contains(name: &[u8], part: &[u8]) -> bool
-    ensures { λ r. ⌜ r ≡ within (now (part .entry)) (now (name .entry)) ⌝ }
-{
-    let mut i: usize = 0;
-    loop {
-        if begins_with(&name[i..], part) {
-            return true;
-        }
-        if i == name.len() {
-            return false;
-        }
-        i += 1;
-    }
-}
-
-// Byte order: the first stands before the second.
-pub fn is_before(a: &[u8], b: &[u8]) -> bool
-    ensures { λ r. ⌜ r ≡ before (now (a .entry)) (now (b .entry)) ⌝ }
-{
-    let mut i: usize = 0;
-    while i < b.len() {
-        if a.len() <= i {
-            return true;
-        }
-        if a[i] != b[i] {
-            return a[i] < b[i];
-        }
-        i += 1;
-    }
-    false
-}
+ghost use Rattle.names.specs.Parts.{toSlash};
 
 // A byte of a special name after its first: A to Z and `_`.
 fn is_upper(byte: u8) -> bool
@@ -144,10 +83,10 @@ fn is_component(part: &[u8]) -> bool
     if !all_component_bytes(part) {
         return false;
     }
-    if begins_with(part, b".") {
+    if spelling::begins_with(part, b".") {
         return false;
     }
-    !ends_with(part, b".lock")
+    !spelling::ends_with(part, b".lock")
 }
 
 // How many bytes the first component has: up to the first `/`, or all.
@@ -185,16 +124,16 @@ fn are_components(bytes: &[u8]) -> bool
 fn is_ref(name: &[u8]) -> bool
     ensures { λ r. ⌜ r ≡ isRef (now (name .entry)) ⌝ }
 {
-    if !begins_with(name, b"refs/") {
+    if !spelling::begins_with(name, b"refs/") {
         return false;
     }
     if !are_components(&name[5..]) {
         return false;
     }
-    if contains(name, b"..") {
+    if spelling::contains(name, b"..") {
         return false;
     }
-    !ends_with(name, b".")
+    !spelling::ends_with(name, b".")
 }
 
 // A name has 1 to 64 bytes, and is special or under `refs/`.
@@ -217,16 +156,16 @@ pub fn is_name(name: &[u8]) -> bool
 pub fn is_packable(name: &[u8]) -> bool
     ensures { λ r. ⌜ r ≡ packable (now (name .entry)) ⌝ }
 {
-    if !begins_with(name, b"refs/") {
+    if !spelling::begins_with(name, b"refs/") {
         return false;
     }
-    if begins_with(name, b"refs/bisect/") {
+    if spelling::begins_with(name, b"refs/bisect/") {
         return false;
     }
-    if begins_with(name, b"refs/worktree/") {
+    if spelling::begins_with(name, b"refs/worktree/") {
         return false;
     }
-    !begins_with(name, b"refs/rewritten/")
+    !spelling::begins_with(name, b"refs/rewritten/")
 }
 
 // Setting 1: `HEAD`, branches, remotes and notes.
@@ -236,13 +175,13 @@ fn is_logged_normally(name: &[u8]) -> bool
     if word::same(b"HEAD", name) {
         return true;
     }
-    if begins_with(name, b"refs/heads/") {
+    if spelling::begins_with(name, b"refs/heads/") {
         return true;
     }
-    if begins_with(name, b"refs/remotes/") {
+    if spelling::begins_with(name, b"refs/remotes/") {
         return true;
     }
-    begins_with(name, b"refs/notes/")
+    spelling::begins_with(name, b"refs/notes/")
 }
 
 // Setting 2: `HEAD` and all under `refs/`.
@@ -252,7 +191,7 @@ fn is_logged_always(name: &[u8]) -> bool
     if word::same(b"HEAD", name) {
         return true;
     }
-    begins_with(name, b"refs/")
+    spelling::begins_with(name, b"refs/")
 }
 
 // The log setting by itself has the name logged, whatever lines it has already.

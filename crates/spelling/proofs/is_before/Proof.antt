@@ -3,9 +3,9 @@ use lib.ListN.{length, drop}
 use mathlib.Core.Path.{_≡_, refl}
 use Prim.Native.Nat.{_-_}
 use Rattle.model.specs.Names.{before}
-use Rattle.names.proofs.Bytes.{before-short, before-not, before-more, before-end}
-use Rattle.names.proofs.is_before.Statement.{statement}
-use Rattle.names.proofs.is_before.Tie as tie
+use Rattle.spelling.proofs.Bytes.{before-short, before-not, before-more, before-end}
+use Rattle.spelling.proofs.is_before.Statement.{statement}
+use Rattle.spelling.proofs.is_before.Tie as tie
 
 abbrev Inv-loop : tie.InvT-loop
 Inv-loop a b i₀ i = before (drop i a) (drop i b) ≡ before a b

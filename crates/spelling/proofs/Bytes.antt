@@ -10,7 +10,7 @@ use lib.Seq.{drop-cons, take-all}
 use lib.Dec.{eqb, ltb}
 use borrow.Author.Tests.{eq-eqb, ne-eqb, le-ltb}
 use Rattle.model.specs.Names.{sameBytes, begins, within, before}
-use Rattle.names.specs.Parts.{ends}
+use Rattle.spelling.specs.Ends.{ends}
 
 -- a part that reaches to the end
 pub to-end : (n : List ℕ) (i : ℕ) → take (length n - i) (drop i n) ≡ drop i n

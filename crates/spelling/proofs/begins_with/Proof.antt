@@ -3,9 +3,9 @@ use lib.ListN.{length, drop}
 use mathlib.Core.Path.{_≡_, refl}
 use Prim.Native.Nat.{_-_}
 use Rattle.model.specs.Names.{begins}
-use Rattle.names.proofs.Bytes.{begins-short, begins-not, begins-more, begins-end}
-use Rattle.names.proofs.begins_with.Statement.{statement}
-use Rattle.names.proofs.begins_with.Tie as tie
+use Rattle.spelling.proofs.Bytes.{begins-short, begins-not, begins-more, begins-end}
+use Rattle.spelling.proofs.begins_with.Statement.{statement}
+use Rattle.spelling.proofs.begins_with.Tie as tie
 
 abbrev Inv-loop : tie.InvT-loop
 Inv-loop name prefix i₀ i = begins (drop i prefix) (drop i name) ≡ begins prefix name

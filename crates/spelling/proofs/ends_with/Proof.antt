@@ -1,7 +1,7 @@
 use borrow.Author.Needs.{needs}
-use Rattle.names.proofs.Bytes.{ends-short, ends-part}
-use Rattle.names.proofs.ends_with.Statement.{statement}
-use Rattle.names.proofs.ends_with.Tie as tie
+use Rattle.spelling.proofs.Bytes.{ends-short, ends-part}
+use Rattle.spelling.proofs.ends_with.Statement.{statement}
+use Rattle.spelling.proofs.ends_with.Tie as tie
 
 returns : tie.Need-returns
 returns c = search ends-short

@@ -4,9 +4,9 @@ use mathlib.Core.Path.{_≡_, refl}
 use native.Mathlib.Omega.{arith}
 use Prim.Native.Nat.{_-_, _≤_}
 use Rattle.model.specs.Names.{within}
-use Rattle.names.proofs.Bytes.{within-here, within-end, within-more}
-use Rattle.names.proofs.contains.Statement.{statement}
-use Rattle.names.proofs.contains.Tie as tie
+use Rattle.spelling.proofs.Bytes.{within-here, within-end, within-more}
+use Rattle.spelling.proofs.contains.Statement.{statement}
+use Rattle.spelling.proofs.contains.Tie as tie
 
 abbrev Inv-loop : tie.InvT-loop
 Inv-loop name part i₀ i = (i ≤ length name) × (within part (drop i name) ≡ within part name)
