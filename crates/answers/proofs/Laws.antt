@@ -16,8 +16,11 @@ use Rattle.transaction.specs.declared.ParentIndex.{ParentIndex}
 use Rattle.transaction.specs.declared.ParentIndex.the-variants.{NoParent, Parent}
 use Rattle.transaction.specs.Change.{newValue, previousValue, expectedOf, logOf, forceOf, messageOf}
 use Rattle.transaction.specs.Fields.{changeByte, refLogByte, previousByte}
-use Rattle.model.specs.Numbers.{optionPlaces, parentPlaces, flag}
-use Rattle.answers.specs.Answers.{recordOf, padded, parentFlag, parentPlace}
+use Rattle.transaction.specs.declared.Edit.{Edit}
+use Rattle.model.specs.Numbers.{optionPlaces, parentPlaces, rowPlaces, flag}
+use Rattle.answers.specs.declared.RowVerdict.{RowVerdict}
+use Rattle.answers.specs.declared.RowVerdict.the-variants.{Row, Refused}
+use Rattle.answers.specs.Answers.{recordOf, padded, rowAnswerBy, parentFlag, parentPlace}
 
 parents : (p : ParentIndex) → parentPlaces p ≡ parentFlag p ∷ parentPlace p ∷ []
 parents NoParent = refl
@@ -62,3 +65,12 @@ module _ (s ps : List ℕ) (i : ℕ) (l : length s ≡ 128) (m : length ps ≡ 1
   pub end : 16 ≤ i → s ≡ recordOf ps
   unfolding recordOf
   end h = sym (take-all (i * 8) s (omega arith)) ∙ e ∙ ap (collect (be 8)) (take-all i ps (omega arith))
+
+-- ---- the two ways in which reading a row answers
+
+module _ (v : RowVerdict) (ps a : List ℕ) (ea : a ≡ recordOf ps) where
+  pub row-finished : (r : Edit) → v ≡ Row r → ps ≡ padded (rowPlaces r) → (0 ≡ rowAnswerBy v .number) × (a ≡ recordOf (rowAnswerBy v .places))
+  row-finished r e h = rw e (refl, ea ∙ ap recordOf h)
+
+  pub row-refused : (n x : ℕ) → v ≡ Refused n x → ps ≡ padded (x ∷ []) → (n ≡ rowAnswerBy v .number) × (a ≡ recordOf (rowAnswerBy v .places))
+  row-refused n x e h = rw e (refl, ea ∙ ap recordOf h)

@@ -5,9 +5,7 @@ ghost use lib.ListN.{length};
 ghost use Rattle.transaction.specs.Change.{logOf, forceOf, messageOf, expectedOf};
 ghost use Rattle.transaction.specs.Fields.{refLogByte, previousByte};
 ghost use Rattle.model.specs.Numbers.{rowPlaces, flag};
-ghost use Rattle.answers.specs.Answers.{recordOf, padded, answerBy, parentFlag, parentPlace};
-use model::Line;
-use target::OptionTarget;
+ghost use Rattle.answers.specs.Answers.{recordOf, padded, answerBy, rowAnswerBy, parentFlag, parentPlace};
 use transaction::Change;
 use transaction::Edit;
 use transaction::ParentIndex;
@@ -37,13 +35,17 @@ impl Answer {
     pub const NOTHING_THERE: u32 = 22;
 }
 
-// What a call answers: done, with what it gives, or a refusal's number and what stands in its place 0.
+// What a call answers: done, with as many places as it uses, or a refusal's number and what stands in its place 0.
 pub enum Verdict {
     Done,
     Number(u64),
-    Bytes(u64, u64),
-    Value(OptionTarget),
-    Line(Line),
+    Two(u64, u64),
+    Four(u64, u64, u64, u64),
+    Refused(u32, u64),
+}
+
+// What reading a row answers.
+pub enum RowVerdict {
     Row(Edit),
     Refused(u32, u64),
 }
@@ -83,16 +85,14 @@ fn two_places(x: u64, y: u64) -> [u64; 16]
     out
 }
 
-fn line_places(l: Line) -> [u64; 16]
-    ensures { λ r. ⌜ r ≡ padded (l .previous .0 ∷ l .new .0 ∷ l .committer ∷ l .message ∷ []) ⌝ }
+fn four_places(x: u64, y: u64, z: u64, w: u64) -> [u64; 16]
+    ensures { λ r. ⌜ r ≡ padded (x ∷ y ∷ z ∷ w ∷ []) ⌝ }
 {
-    let previous = l.previous;
-    let new = l.new;
     let mut out = [0u64; 16];
-    out[0] = previous.0;
-    out[1] = new.0;
-    out[2] = l.committer as u64;
-    out[3] = l.message as u64;
+    out[0] = x;
+    out[1] = y;
+    out[2] = z;
+    out[3] = w;
     out
 }
 
@@ -225,10 +225,8 @@ fn places_of(verdict: Verdict) -> [u64; 16]
     match verdict {
         Verdict::Done => one_place(0),
         Verdict::Number(n) => one_place(n),
-        Verdict::Bytes(offset, len) => two_places(offset, len),
-        Verdict::Value(t) => two_places(t.byte(), t.number()),
-        Verdict::Line(l) => line_places(l),
-        Verdict::Row(row) => row_places(row),
+        Verdict::Two(x, y) => two_places(x, y),
+        Verdict::Four(x, y, z, w) => four_places(x, y, z, w),
         Verdict::Refused(_, x) => one_place(x),
     }
 }
@@ -239,10 +237,8 @@ fn number_of(verdict: Verdict) -> u32
     match verdict {
         Verdict::Done => 0,
         Verdict::Number(_) => 0,
-        Verdict::Bytes(_, _) => 0,
-        Verdict::Value(_) => 0,
-        Verdict::Line(_) => 0,
-        Verdict::Row(_) => 0,
+        Verdict::Two(_, _) => 0,
+        Verdict::Four(_, _, _, _) => 0,
         Verdict::Refused(number, _) => number,
     }
 }
@@ -254,4 +250,21 @@ pub fn finish(answer: &mut [u8], verdict: Verdict) -> u32
 {
     put_places(answer, places_of(verdict));
     number_of(verdict)
+}
+
+// The same where a row is read.
+pub fn finish_row(answer: &mut [u8], verdict: RowVerdict) -> u32
+    requires { ⌜ length (now answer) ≡ 128 ⌝ }
+    ensures { λ r. ⌜ (r ≡ rowAnswerBy verdict .number) × (now (answer .exit) ≡ recordOf (rowAnswerBy verdict .places)) ⌝ }
+{
+    match verdict {
+        RowVerdict::Row(row) => {
+            put_places(answer, row_places(row));
+            0
+        }
+        RowVerdict::Refused(number, x) => {
+            put_places(answer, one_place(x));
+            number
+        }
+    }
 }

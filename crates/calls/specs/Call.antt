@@ -19,7 +19,8 @@ use Rattle.model.specs.Numbers.{answerOf}
 use Rattle.region.specs.Layout.{regionSize}
 use Rattle.region.specs.Region.{image, decode, nameOffset}
 use Rattle.answers.specs.declared.Verdict.{Verdict}
-use Rattle.answers.specs.Answers.{recordOf, answerBy}
+use Rattle.answers.specs.declared.RowVerdict.{RowVerdict}
+use Rattle.answers.specs.Answers.{recordOf, answerBy, rowAnswerBy}
 use Rattle.calls.specs.declared.OptionSetting.{OptionSetting}
 use Rattle.calls.specs.declared.OptionSetting.the-variants.{NoSetting, Setting}
 
@@ -90,6 +91,11 @@ pub record Did (o : Out) (n : ℕ) (a r : List ℕ) : Type 0 where
 -- the contract of the function on plain values below each exported call
 pub record Replied (v : Verdict) (r r′ : List ℕ) (reply : Reply) : Type 0 where
   pub answer : answerBy v ≡ answerOf nameOffset reply
+  pub region : r′ ≡ regionAfter reply r
+
+-- the same of the function that reads a row, which has a verdict of its own
+pub record RepliedRow (v : RowVerdict) (r r′ : List ℕ) (reply : Reply) : Type 0 where
+  pub answer : rowAnswerBy v ≡ answerOf nameOffset reply
   pub region : r′ ≡ regionAfter reply r
 
 -- ---- the bytes of a name, handed back as a part of the region: what stands at the offset and length that name_bytes answers. A

@@ -175,5 +175,5 @@ pub extern "C" fn dehlbazin_read_row(region: &[u8], place: u64, answer: &mut [u8
         return 1;
     }
     let verdict = reads::read_row(region, place);
-    answers::finish(answer, verdict)
+    answers::finish_row(answer, verdict)
 }

@@ -111,7 +111,7 @@ fn has_move(change: Change, leaf: ObjectNumber) -> bool
 fn previous_or(expected: PreviousValue, leaf: ObjectNumber) -> ObjectNumber
     ensures { λ r. ⌜ r ≡ orLeaf (idOf (matched expected)) leaf ⌝ }
 {
-    let OptionTarget::Present(t) = kept::matched_by(expected) else {
+    let OptionTarget::Present(t) = opened::matched_by(expected) else {
         return leaf;
     };
     let OptionObject::Id(oid) = t.try_id() else {

@@ -4,7 +4,7 @@ ghost use mathlib.Core.Path.{_≡_};
 ghost use mathlib.Core.Bool.{_&&_};
 ghost use Prim.Native.Nat.{_<_};
 ghost use lib.Dec.{eqb};
-ghost use Rattle.transaction.specs.Change.{existingIn, matched};
+ghost use Rattle.transaction.specs.Change.{existingIn};
 ghost use Rattle.model.specs.Basic.{below};
 ghost use Rattle.model.specs.Store.{count, isLock};
 ghost use Rattle.model.specs.Rows.{nameIn, isDirect, keepsLock};
@@ -15,7 +15,6 @@ use target::OptionTarget;
 use transaction::Change;
 use transaction::Edit;
 use transaction::PackedRefs;
-use transaction::PreviousValue;
 
 // R4: mode 3, an update to an object, and a packable name.
 fn is_direct(region: &[u8], mode: PackedRefs, row: Edit) -> bool
@@ -43,20 +42,8 @@ fn existing_in(change: Change) -> OptionTarget
             log: _,
             expected,
             new: _,
-        } => matched_by(expected),
-        Change::Delete { expected, log: _ } => matched_by(expected),
-    }
-}
-
-pub fn matched_by(expected: PreviousValue) -> OptionTarget
-    ensures { λ r. ⌜ r ≡ matched expected ⌝ }
-{
-    match expected {
-        PreviousValue::Any => OptionTarget::Absent,
-        PreviousValue::MustExist => OptionTarget::Absent,
-        PreviousValue::MustNotExist => OptionTarget::Absent,
-        PreviousValue::MustExistAndMatch(t) => OptionTarget::Present(t),
-        PreviousValue::ExistingMustMatch(_) => OptionTarget::Absent,
+        } => opened::matched_by(expected),
+        Change::Delete { expected, log: _ } => opened::matched_by(expected),
     }
 }
 

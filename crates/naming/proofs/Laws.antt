@@ -26,7 +26,7 @@ use Rattle.region.proofs.Read.{name-read}
 use Rattle.steps.specs.declared.Found.{Found}
 use Rattle.steps.specs.declared.Found.the-variants.{Nowhere, At}
 use Rattle.steps.specs.Steps.{foundOption}
-use Rattle.answers.specs.declared.Verdict.the-variants.{Number, Bytes, Refused}
+use Rattle.answers.specs.declared.Verdict.the-variants.{Number, Two, Refused}
 use Rattle.calls.specs.Call.{replyTo, Replied, namePart}
 use Rattle.calls.proofs.Replies.{good-laid, bad-region, replies, says-no, says-done, says-read, no-3, no-18, no-19}
 use Rattle.calls.proofs.Known.{known-far, known-near}
@@ -125,13 +125,13 @@ module _ (n : ℕ) (r p : List ℕ) (e : p ≡ namePart n r) where
     pub fits-offset : Fits w64 (13 + n * 65 + 1)
     fits-offset = record { fits = let k : n < 256 = small in let q : 13 + n * 65 + 1 < 2 ^ 64 = omega arith in q }
 
-    pub bytes-done : Replied (Bytes (13 + n * 65 + 1) (length p)) r r (replyTo (nameBytes n) r)
+    pub bytes-done : Replied (Two (13 + n * 65 + 1) (length p)) r r (replyTo (nameBytes n) r)
     unfolding step bytesGiven
     bytes-done =
         let f = full-known h in
         let g : true ≡ good r = sym (f .0) in
         let name : entryAt (view r) n .name ≡ namePart n r = part-is n r true g refl (count (view r)) refl (f .1) (entryAt (view r) n .name) refl in
-        says-read (nameBytes n) r true g refl refl (Bytes (nameOffset n) (length p)) (bytesOf n) (rw (known-near n (count (view r)) (view r) refl (f .1))) (rw (e, ← name))
+        says-read (nameBytes n) r true g refl refl (Two (nameOffset n) (length p)) (bytesOf n) (rw (known-near n (count (view r)) (view r) refl (f .1))) (rw (e, ← name))
 
   pub bytes-far : (ok : Bool) → ok ≡ good r → not ok ≡ false → length p ≡ 0 → Replied (Refused 3 n) r r (replyTo (nameBytes n) r)
   unfolding step bytesGiven

@@ -47,7 +47,7 @@ pub fn name_bytes(region: &[u8], name: u64) -> Verdict
     let part = name_part(region, name);
     let length = part.len() as u64;
     if length != 0 {
-        return Verdict::Bytes((Layout::NAMES as u64) + name * 65 + 1, length);
+        return Verdict::Two((Layout::NAMES as u64) + name * 65 + 1, length);
     }
     if !good::is_good(region) {
         return Verdict::Refused(Answer::BAD_REGION, 0);

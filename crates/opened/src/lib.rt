@@ -2,7 +2,7 @@
 // The names are those of the scope's rule R2.
 ghost use mathlib.Core.Path.{_≡_};
 ghost use mathlib.Core.Bool.{_&&_};
-ghost use Rattle.transaction.specs.Change.{isLogOnly};
+ghost use Rattle.transaction.specs.Change.{isLogOnly, matched};
 ghost use Rattle.model.specs.Basic.{any};
 ghost use Rattle.model.specs.Names.{packable};
 ghost use Rattle.model.specs.Store.{Entry, nameOf, rowsIn, modeIn, isPacked};
@@ -13,6 +13,7 @@ use target::NameNumber;
 use target::OptionTarget;
 use transaction::Change;
 use transaction::Edit;
+use transaction::PreviousValue;
 use transaction::RefLog;
 
 // Whether the name of a number is packable; a number that is not registered has no bytes.
@@ -166,4 +167,19 @@ fn packs_update(region: &[u8]) -> bool
         return false;
     }
     any_update_counts(region)
+}
+
+// ---- what R4 and the due lines both ask of a row
+
+// The target that the row was judged to match, if it was.
+pub fn matched_by(expected: PreviousValue) -> OptionTarget
+    ensures { λ r. ⌜ r ≡ matched expected ⌝ }
+{
+    match expected {
+        PreviousValue::Any => OptionTarget::Absent,
+        PreviousValue::MustExist => OptionTarget::Absent,
+        PreviousValue::MustNotExist => OptionTarget::Absent,
+        PreviousValue::MustExistAndMatch(t) => OptionTarget::Present(t),
+        PreviousValue::ExistingMustMatch(_) => OptionTarget::Absent,
+    }
 }

@@ -1,5 +1,5 @@
 -- Reads: what each way out answers. Assumes nothing.
-use mathlib.Core.Path.{_≡_, refl, sym, ap, _∙_}
+use mathlib.Core.Path.{_≡_, refl, sym, ap, ap₂, _∙_}
 use mathlib.Core.Bool.{Bool, true, false, not, cond}
 use mathlib.Core.List.{List}
 use mathlib.Core.Option.{none, some}
@@ -11,6 +11,7 @@ use borrow.Author.Tests.{lt-leb, le-leb, ltb-true, ltb-false}
 use mir.Val.{Fits}
 use mir.Syntax.{w16}
 use Rattle.target.specs.declared.OptionTarget.{OptionTarget}
+use Rattle.target.specs.Fields.{targetByte, targetNumber}
 use Rattle.transaction.specs.declared.Edit.{Edit}
 use Rattle.model.specs.declared.Loose.{Loose}
 use Rattle.model.specs.declared.Packed.{Packed}
@@ -19,16 +20,21 @@ use Rattle.model.specs.declared.Refusal.the-variants.{NotRegistered, NothingThe
 use Rattle.model.specs.Store.{count, entryAt, linesOf, rowsIn, noLine}
 use Rattle.model.specs.Read.{looseOr, packedValue, reading}
 use Rattle.model.specs.Rows.{rowAt}
+use Rattle.model.specs.Reply.{Reply}
+use Rattle.model.specs.Reply.Reply.{done}
+use Rattle.model.specs.Numbers.{answerOf}
 use Rattle.model.specs.Reply.Call.{readName, readLine, readRow}
 use Rattle.model.specs.Reply.Given.{value, line, row}
 use Rattle.model.specs.Calls.{step, nameRead, lineRead, rowRead}
 use Rattle.region.specs.Region.{view, good}
+use Rattle.region.proofs.Decode.{laid-image}
 use Rattle.steps.specs.declared.OptionLine.{OptionLine}
 use Rattle.steps.specs.declared.OptionLine.the-variants as optionLine
 use Rattle.steps.specs.Steps.{lineOption, lineAmong}
 use Rattle.answers.specs.declared.Verdict.the-variants as verdict
-use Rattle.calls.specs.Call.{replyTo, Replied}
-use Rattle.calls.proofs.Replies.{good-laid, says-no, says-read, no-3, no-22}
+use Rattle.answers.specs.declared.RowVerdict.the-variants as row-verdict
+use Rattle.calls.specs.Call.{replyTo, Replied, RepliedRow}
+use Rattle.calls.proofs.Replies.{good-laid, bad-region, replies, says-no, says-read, no-3, no-22}
 use Rattle.calls.proofs.Known.{known-far, known-near}
 
 -- a registered number has 16 bits
@@ -59,11 +65,13 @@ module _ (r : List ℕ) (ok : Bool) (is : ok ≡ good r) (y : not ok ≡ false) 
     unfolding step nameRead
     name-far l = says-no (readName n) r ok is refl y (NotRegistered n) 3 n (no-3 n) (rw (known-far n k (view r) e l))
 
-    pub name-done : n < k → (l : Loose) (p : Packed) (v : OptionTarget) → l ≡ entryAt (view r) n .loose → p ≡ entryAt (view r) n .packed
-        → v ≡ looseOr l (packedValue true p) → Replied (verdict.Value v) r r (replyTo (readName n) r)
+    pub name-done : n < k → (l : Loose) (p : Packed) (v : OptionTarget) (x z : ℕ) → l ≡ entryAt (view r) n .loose → p ≡ entryAt (view r) n .packed
+        → v ≡ looseOr l (packedValue true p) → x ≡ targetByte v → z ≡ targetNumber v → Replied (verdict.Two x z) r r (replyTo (readName n) r)
     unfolding step nameRead reading
-    name-done l a p v ea ep ev =
-        rw (ev, ea, ep) (says-read (readName n) r ok is refl y (verdict.Value (reading (view r) (record { 0 = n }))) (value (reading (view r) (record { 0 = n }))) (rw (known-near n k (view r) e l)) refl)
+    name-done l a p v x z ea ep ev ex ez =
+        let is-read : v ≡ reading (view r) (record { 0 = n }) = ev ∙ ap₂ (λ (q : Loose) (w : Packed). looseOr q (packedValue true w)) ea ep in
+        rw (ex, ez, is-read)
+        (says-read (readName n) r ok is refl y (verdict.Two _ _) (value (reading (view r) (record { 0 = n }))) (rw (known-near n k (view r) e l)) refl)
 
     module _ (place : ℕ) where
       pub line-far : k ≤ n → Replied (verdict.Refused 3 n) r r (replyTo (readLine n place) r)
@@ -77,24 +85,35 @@ module _ (r : List ℕ) (ok : Bool) (is : ok ≡ good r) (y : not ok ≡ false) 
             let m : none ≡ lineAmong place (linesOf (view r) (record { 0 = n })) = ap lineOption (sym h) ∙ eo in
             says-no (readLine n place) r ok is refl y NothingThere 22 0 no-22 (rw (known-near n k (view r) e l, no-line place (linesOf (view r) (record { 0 = n })) m))
 
-        pub line-done : (x : Line) → o ≡ optionLine.Line x → Replied (verdict.Line x) r r (replyTo (readLine n place) r)
+        pub line-done : (x : Line) → o ≡ optionLine.Line x
+            → Replied (verdict.Four (x .previous .0) (x .new .0) (x .committer) (x .message)) r r (replyTo (readLine n place) r)
         unfolding step lineRead
         line-done x h =
             let m : some x ≡ lineAmong place (linesOf (view r) (record { 0 = n })) = ap lineOption (sym h) ∙ eo in
-            rw (a-line place (linesOf (view r) (record { 0 = n })) x m .1) (says-read (readLine n place) r ok is refl y (verdict.Line (getD (linesOf (view r) (record { 0 = n })) place noLine)) (line (getD (linesOf (view r) (record { 0 = n })) place noLine)) (rw (known-near n k (view r) e l, a-line place (linesOf (view r) (record { 0 = n })) x m .0)) refl)
+            let there = a-line place (linesOf (view r) (record { 0 = n })) x m in
+            says-read (readLine n place) r ok is refl y (verdict.Four _ _ _ _) (line x) (rw (known-near n k (view r) e l, there .0, there .1)) refl
 
-  module _ (place k : ℕ) (e : k ≡ length (rowsIn (view r .prepared))) where
-    pub row-far : k ≤ place → Replied (verdict.Refused 22 0) r r (replyTo (readRow place) r)
-    unfolding step rowRead
-    row-far l =
-        let b : length (rowsIn (view r .prepared)) ≤ place = rw e at l in
-        says-no (readRow place) r ok is refl y NothingThere 22 0 no-22 (rw (le-leb _ _ b))
+-- ---- reading a row, whose verdict is its own
 
-    pub row-near : place < k → place < length (rowsIn (view r .prepared))
-    row-near l = rw e at l
+as-row : (r r′ : List ℕ) (n p : ℕ) (reply : Reply) → Replied (verdict.Refused n p) r r′ reply → RepliedRow (row-verdict.Refused n p) r r′ reply
+as-row r r′ n p reply d = record { answer = d .answer; region = d .region }
 
-    pub row-done : place < k → (x : Edit) → x ≡ rowAt (rowsIn (view r .prepared)) place → Replied (verdict.Row x) r r (replyTo (readRow place) r)
-    unfolding step rowRead
-    row-done l x h =
-        let b : place < length (rowsIn (view r .prepared)) = rw e at l in
-        rw h (says-read (readRow place) r ok is refl y (verdict.Row (rowAt (rowsIn (view r .prepared)) place)) (row (rowAt (rowsIn (view r .prepared)) place)) (rw (lt-leb _ _ b)) refl)
+pub row-bad : (place : ℕ) (r : List ℕ) (ok : Bool) → ok ≡ good r → not ok ≡ true → RepliedRow (row-verdict.Refused 1 0) r r (replyTo (readRow place) r)
+row-bad place r ok is n = as-row r r 1 0 (replyTo (readRow place) r) (bad-region (readRow place) r ok is refl n)
+
+module _ (r : List ℕ) (ok : Bool) (is : ok ≡ good r) (y : not ok ≡ false) (place k : ℕ) (e : k ≡ length (rowsIn (view r .prepared))) where
+  pub row-far : k ≤ place → RepliedRow (row-verdict.Refused 22 0) r r (replyTo (readRow place) r)
+  unfolding step rowRead
+  row-far l =
+      let b : length (rowsIn (view r .prepared)) ≤ place = rw e at l in
+      as-row r r 22 0 (replyTo (readRow place) r) (says-no (readRow place) r ok is refl y NothingThere 22 0 no-22 (rw (le-leb _ _ b)))
+
+  pub row-near : place < k → place < length (rowsIn (view r .prepared))
+  row-near l = rw e at l
+
+  pub row-done : place < k → (x : Edit) → x ≡ rowAt (rowsIn (view r .prepared)) place → RepliedRow (row-verdict.Row x) r r (replyTo (readRow place) r)
+  unfolding step rowRead answerOf
+  row-done l x h =
+      let b : place < length (rowsIn (view r .prepared)) = rw e at l in
+      let is-read : step (readRow place) (view r) ≡ done (view r) (row x) = rw (lt-leb _ _ b, h) in
+      rw (replies (readRow place) r ok is refl y, is-read) (record { answer = refl; region = laid-image r (good-laid r ok is y) .0 })

@@ -1,7 +1,8 @@
 // Reads: a name's value, a line of its log, and a row of the prepared transaction.
 ghost use Rattle.model.specs.Reply.Call.{readName, readLine, readRow};
-ghost use Rattle.calls.specs.Call.{replyTo, Replied};
+ghost use Rattle.calls.specs.Call.{replyTo, Replied, RepliedRow};
 use answers::Answer;
+use answers::RowVerdict;
 use answers::Verdict;
 use steps::OptionLine;
 use target::NameNumber;
@@ -18,7 +19,8 @@ pub fn read_name(region: &[u8], name: u64) -> Verdict
     let n = name as usize;
     let loose = region::loose_at(region, n);
     let packed = region::packed_at(region, n);
-    Verdict::Value(steps::value_of(loose, packed))
+    let value = steps::value_of(loose, packed);
+    Verdict::Two(value.byte(), value.number())
 }
 
 pub fn read_line(region: &[u8], name: u64, place: u64) -> Verdict
@@ -34,17 +36,24 @@ pub fn read_line(region: &[u8], name: u64, place: u64) -> Verdict
     let OptionLine::Line(line) = steps::find_line(region, NameNumber(number), place) else {
         return Verdict::Refused(Answer::NOTHING_THERE, 0);
     };
-    Verdict::Line(line)
+    let previous = line.previous;
+    let new = line.new;
+    Verdict::Four(
+        previous.0,
+        new.0,
+        line.committer as u64,
+        line.message as u64,
+    )
 }
 
-pub fn read_row(region: &[u8], place: u64) -> Verdict
-    ensures { λ r. ⌜ Replied r (now (region .entry)) (now (region .entry)) (replyTo (readRow place) (now (region .entry))) ⌝ }
+pub fn read_row(region: &[u8], place: u64) -> RowVerdict
+    ensures { λ r. ⌜ RepliedRow r (now (region .entry)) (now (region .entry)) (replyTo (readRow place) (now (region .entry))) ⌝ }
 {
     if !good::is_good(region) {
-        return Verdict::Refused(Answer::BAD_REGION, 0);
+        return RowVerdict::Refused(Answer::BAD_REGION, 0);
     }
     if place >= (region::count_rows(region) as u64) {
-        return Verdict::Refused(Answer::NOTHING_THERE, 0);
+        return RowVerdict::Refused(Answer::NOTHING_THERE, 0);
     }
-    Verdict::Row(region::row_at(region, place as usize))
+    RowVerdict::Row(region::row_at(region, place as usize))
 }

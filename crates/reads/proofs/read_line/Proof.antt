@@ -31,6 +31,12 @@ enum-told c = search needs
 returns-3 : tie.Need-returns-3
 returns-3 c = search line-none
 
+cast-t11 : tie.Need-cast-t11
+cast-t11 c = search needs
+
+cast-t14 : tie.Need-cast-t14
+cast-t14 c = search needs
+
 returns-4 : tie.Need-returns-4
 returns-4 c = search line-done
 
@@ -47,4 +53,6 @@ read-line-spec =
     enum-known-line
     enum-told
     returns-3
+    cast-t11
+    cast-t14
     returns-4)

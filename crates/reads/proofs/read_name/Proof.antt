@@ -26,6 +26,12 @@ packed-at-requires c κs = (search good-laid, search near)
 value-of-requires : tie.Need-value-of-requires
 value-of-requires c κs = search needs
 
+byte-requires : tie.Need-byte-requires
+byte-requires c κs = search needs
+
+number-requires : tie.Need-number-requires
+number-requires c κs = search needs
+
 returns-3 : tie.Need-returns-3
 returns-3 c = search name-done
 
@@ -40,4 +46,6 @@ read-name-spec =
     loose-at-requires
     packed-at-requires
     value-of-requires
+    byte-requires
+    number-requires
     returns-3)

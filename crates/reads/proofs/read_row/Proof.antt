@@ -1,6 +1,6 @@
 use borrow.Author.Needs.{needs}
-use Rattle.calls.proofs.Replies.{good-laid, bad-region}
-use Rattle.reads.proofs.Laws.{row-near, row-far, row-done}
+use Rattle.calls.proofs.Replies.{good-laid}
+use Rattle.reads.proofs.Laws.{row-bad, row-near, row-far, row-done}
 use Rattle.reads.proofs.read_row.Statement.{statement}
 use Rattle.reads.proofs.read_row.Tie as tie
 
@@ -8,7 +8,7 @@ is-good-requires : tie.Need-is-good-requires
 is-good-requires c κs = search needs
 
 returns : tie.Need-returns
-returns c = search bad-region
+returns c = search row-bad
 
 count-rows-requires : tie.Need-count-rows-requires
 count-rows-requires c κs = search good-laid

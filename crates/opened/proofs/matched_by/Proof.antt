@@ -1,6 +1,6 @@
 use borrow.Author.Needs.{needs}
-use Rattle.kept.proofs.matched_by.Statement.{statement}
-use Rattle.kept.proofs.matched_by.Tie as tie
+use Rattle.opened.proofs.matched_by.Statement.{statement}
+use Rattle.opened.proofs.matched_by.Tie as tie
 
 enum-told : tie.Need-enum-told
 enum-told c = search needs
