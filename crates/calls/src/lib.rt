@@ -1,5 +1,5 @@
-// What calls have in common, and the two that have no name or number to look at: start and rollback. Each tests the region,
-// does what the model's call does, and gives a verdict.
+// The two calls that look at no name: start, which tests the region's size alone, and rollback. What all calls have in common
+// stands in specs and proofs.
 ghost use mathlib.Core.Path.{_≡_};
 ghost use Rattle.model.specs.Load.{settingOf};
 ghost use Rattle.model.specs.Reply.Call.{start, rollback};
