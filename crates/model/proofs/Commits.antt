@@ -24,7 +24,7 @@ use Rattle.model.specs.Calls.{ended, committed, step}
 use Rattle.model.specs.Reached.{leaves}
 use Rattle.model.specs.Demand3.{by, beforeLine, commitWrites, applyAll, stopAt, reported, refs, StoppedAt}
 use Rattle.model.proofs.Stops.{permitted, run-store, run-made, run-whole, run-unsigned, permitted-is, take-permitted}
-use Rattle.model.proofs.Release.{released-free, released-packed-free, released-foreign, released-reading, released-lines, released-log, released-gone, released-refs, applyAll-lock}
+use Rattle.model.proofs.Release.{released-free, released-packed-free, released-foreign, released-packed-foreign, released-setting, released-reading, released-lines, released-log, released-gone, released-refs, applyAll-lock, applyAll-packed-lock, applyAll-setting}
 
 -- ---- however it ended
 
@@ -76,14 +76,15 @@ module _ (s : Store) (p : isPrepared (s .prepared) ≡ true) (c k : ℕ) where
       ∙ ap released ran-store
 
   -- demand 3, a
-  pub stopped-at : c ≤ 65535 → k ≤ length (commitWrites c s) → StoppedAt c k s
-  stopped-at h l =
+  pub stopped-at : c ≤ 65535 → StoppedAt c k s
+  stopped-at h =
       let e : stopAt c k s ≡ released (applyAll (take k (commitWrites c s)) s) = stop-is h in
       let t : Store = applyAll (take k (commitWrites c s)) s in
       record {
-        count = ap reported (commit-runs h) ∙ ended-reports ran (ran .stop) ∙ ap {B = Option ℕ} some (ran-made ∙ omega arith);
+        count = ap reported (commit-runs h) ∙ ended-reports ran (ran .stop) ∙ ap {B = Option ℕ} some ran-made;
         refs = ap refs e ∙ released-refs t;
         logs = ap (λ (x : Store). x .lines) e ∙ released-log t;
+        setting = ap (λ (x : Store). x .setting) e ∙ released-setting t ∙ applyAll-setting (take k (commitWrites c s)) s;
         gone = ap (λ (x : Store). x .prepared) e ∙ released-gone t;
         free = λ n. ap (λ (x : Store). isLock Ours (entryAt x n .lock)) e ∙ released-free t n;
         packedFree = ap (λ (x : Store). isLock Ours (x .packedLock)) e ∙ released-packed-free t;
@@ -91,6 +92,10 @@ module _ (s : Store) (p : isPrepared (s .prepared) ≡ true) (c k : ℕ) where
             ap (λ (x : Store). isLock Foreign (entryAt x n .lock)) e
             ∙ released-foreign t n
             ∙ ap (isLock Foreign) (applyAll-lock (take k (commitWrites c s)) s n);
+        packedForeign =
+            ap (λ (x : Store). isLock Foreign (x .packedLock)) e
+            ∙ released-packed-foreign t
+            ∙ ap (isLock Foreign) (applyAll-packed-lock (take k (commitWrites c s)) s);
       }
 
 -- ---- a stop, as a number of the whole list's first writes; a committer past 65,535 is refused, and makes none

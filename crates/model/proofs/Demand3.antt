@@ -11,7 +11,7 @@ use Rattle.model.proofs.Prefixes.{outside, old-or-new, never-back, no-l
 
 -- a: the first k writes, and the count
 pub a : A
-a s reached prepared c h k l = stopped-at s prepared c k h l
+a s reached prepared c h k = stopped-at s prepared c k h
 
 -- b: outside the rows
 pub b : B

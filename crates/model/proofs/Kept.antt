@@ -10,7 +10,7 @@ use Rattle.model.specs.Prepare.{rowsFor}
 use Rattle.model.specs.Fine.{Fine}
 use Rattle.model.specs.Reply.{Call}
 use Rattle.model.specs.Reply.Call.{start, addName, nameBytes, loadLoose, loadPacked, lockName, unlockName, lockPacked, unlockPacked, prepare, commit, rollback, readName, readLine, readRow}
-use Rattle.model.specs.Calls.{prepared, step}
+use Rattle.model.specs.Calls.{rowsPrepared, step}
 use Rattle.model.specs.Reached.{Sound, leaves}
 use Rattle.model.specs.Reached.Reached.{begun, after}
 use Rattle.model.specs.Kept.{Kept, ReachedSound}
@@ -24,7 +24,7 @@ use Rattle.model.proofs.KeptCommit.{commit-kept}
 module _ (P : Store → Type 0) (rule : Rule P) (s : Store) (here : P s) where
   -- prepare: refused, or the store that is sound
   prepare-kept : (list : List ℕ) (mode : ℕ) → P (leaves (step (prepare list mode) s) s)
-  unfolding step prepared
+  unfolding step rowsPrepared
   prepare-kept list mode = go (rowsFor list mode s) refl
     where
       go : (o : Outcome Prepared) → rowsFor list mode s ≡ o → P (leaves (step (prepare list mode) s) s)

@@ -56,6 +56,14 @@ module _ (s : Store) where
   pub released-foreign : (n : ℕ) → isLock Foreign (entryAt (released s) n .lock) ≡ isLock Foreign (entryAt s n .lock)
   released-foreign n = ap (λ (e : Entry). isLock Foreign (e .lock)) (released-at s n) ∙ freed-foreign (entryAt s n .lock)
 
+  pub released-packed-foreign : isLock Foreign (released s .packedLock) ≡ isLock Foreign (s .packedLock)
+  unfolding released
+  released-packed-foreign = freed-foreign (s .packedLock)
+
+  pub released-setting : released s .setting ≡ s .setting
+  unfolding released
+  released-setting = refl
+
   pub released-reading : (n : NameNumber) → reading (released s) n ≡ reading s n
   unfolding reading
   released-reading n = rw (released-at s (n .0))
@@ -96,6 +104,32 @@ apply-lock (removeLog m) s n = refl
 apply-lock (writePacked ps) s n = packed-lock ps (s .entries) n
 apply-lock (removeLoose m) s n = kept-field (λ (e : Entry). e .lock) (putLoose loose.None) (λ e. refl) (s .entries) (m .0) n
 
+-- what every write leaves as it is, a list of writes does
+applyAll-leaves : {A : Type 0} (f : Store → A) → ((w : Write) (s : Store) → f (apply w s) ≡ f s) → (ws : List Write) (s : Store) → f (applyAll ws s) ≡ f s
+applyAll-leaves f h [] s = refl
+applyAll-leaves f h (w ∷ ws) s = applyAll-leaves f h ws (apply w s) ∙ h w s
+
+apply-packed-lock : (w : Write) (s : Store) → apply w s .packedLock ≡ s .packedLock
+unfolding apply
+apply-packed-lock (appendLine l) s = refl
+apply-packed-lock (writeLoose n t) s = refl
+apply-packed-lock (removeLog n) s = refl
+apply-packed-lock (writePacked ps) s = refl
+apply-packed-lock (removeLoose n) s = refl
+
+apply-setting : (w : Write) (s : Store) → apply w s .setting ≡ s .setting
+unfolding apply
+apply-setting (appendLine l) s = refl
+apply-setting (writeLoose n t) s = refl
+apply-setting (removeLog n) s = refl
+apply-setting (writePacked ps) s = refl
+apply-setting (removeLoose n) s = refl
+
 pub applyAll-lock : (ws : List Write) (s : Store) (n : ℕ) → entryAt (applyAll ws s) n .lock ≡ entryAt s n .lock
-applyAll-lock [] s n = refl
-applyAll-lock (w ∷ ws) s n = applyAll-lock ws (apply w s) n ∙ apply-lock w s n
+applyAll-lock ws s n = applyAll-leaves (λ (t : Store). entryAt t n .lock) (λ w t. apply-lock w t n) ws s
+
+pub applyAll-packed-lock : (ws : List Write) (s : Store) → applyAll ws s .packedLock ≡ s .packedLock
+applyAll-packed-lock = applyAll-leaves (λ (t : Store). t .packedLock) apply-packed-lock
+
+pub applyAll-setting : (ws : List Write) (s : Store) → applyAll ws s .setting ≡ s .setting
+applyAll-setting = applyAll-leaves (λ (t : Store). t .setting) apply-setting

@@ -16,7 +16,8 @@ use Rattle.model.specs.declared.Packed.the-variants as packed
 use Rattle.model.specs.Basic.{any}
 use Rattle.model.specs.Names.{packable}
 use Rattle.model.specs.Store.{Store, Entry, noRow, noEntry, count, entryOf, nameOf, isId, isPacked, modeIn}
-use Rattle.model.specs.Rows.{nameIn, changeIn, rowAt, counts, countsAsUpdate, packsUpdates, isObject, opens}
+use Rattle.target.specs.Target.{isObject}
+use Rattle.model.specs.Rows.{nameIn, changeIn, rowAt, counts, countsAsUpdate, packsUpdates, opens}
 use Rattle.model.specs.Fine.{Fine, finePacked, entryTests, fineEntry, fineRow}
 use Rattle.model.specs.Reached.{Sound}
 use Rattle.model.specs.Demand3.{rows}

@@ -24,7 +24,8 @@ use Rattle.model.specs.declared.Line.{Line}
 use Rattle.model.specs.Basic.{when}
 use Rattle.model.specs.Names.{packable}
 use Rattle.model.specs.Store.{Store, Entry, entryOf, nameOf, isNone, isPacked, putLoose, putPacked}
-use Rattle.model.specs.Rows.{nameIn, changeIn, counts, packsUpdates, isDirect, keepsLock, isObject, isSymbolic}
+use Rattle.target.specs.Target.{isObject, isSymbolic}
+use Rattle.model.specs.Rows.{nameIn, changeIn, counts, packsUpdates, isDirect, keepsLock}
 use Rattle.model.specs.Due.{Stamp, hasLines, dueLine}
 use Rattle.model.specs.Writes.{looseWrite, writesLoose, packedSet, packedEdit, w1, w2, w4}
 use Rattle.model.specs.Writes.Write.{appendLine, writeLoose, removeLog, removeLoose}

@@ -1,46 +1,69 @@
 -- The record of the rules and their test say the same. Assumes nothing.
 use mathlib.Core.Path.{_≡_, refl}
-use mathlib.Core.Bool.{true}
+use mathlib.Core.Bool.{Bool, true}
+use mathlib.Core.List.{List, [], _∷_}
 use mathlib.Core.Logic.{_↔_}
 use Prim.Native.Nat.{ℕ}
 use lib.ListN.{getD}
 use borrow.Author.Tests.{leb-true, le-leb}
 pub use Rattle.word.proofs.Tests.{both-true, true-both, every-at, below-true, true-below}
 use Rattle.model.specs.Store.{Store}
-use Rattle.model.specs.Fine.{Fine, tests, fine}
+use Rattle.model.specs.Fine.{Fine, nameRules, lineRules, rowRules, lockRules, roomRules, fineNames, fineLines, fineRows, fineLocks, fineRoom, fine}
 
+-- the rules of each group, from its test
 pub fine-true : (s : Store) → fine s ≡ true → Fine s
-unfolding fine
+unfolding fine fineNames fineLines fineRows fineLocks fineRoom
 fine-true s e =
-    let t : (i : ℕ) → getD (tests s) i true ≡ true = λ i. every-at (tests s) i e in
+    let groups : List Bool = fineNames s ∷ fineLines s ∷ fineRows s ∷ fineLocks s ∷ fineRoom s ∷ [] in
+    let names : (i : ℕ) → getD (nameRules s) i true ≡ true = λ i. every-at (nameRules s) i (every-at groups 0 e) in
+    let lines : (i : ℕ) → getD (lineRules s) i true ≡ true = λ i. every-at (lineRules s) i (every-at groups 1 e) in
+    let rows : (i : ℕ) → getD (rowRules s) i true ≡ true = λ i. every-at (rowRules s) i (every-at groups 2 e) in
+    let locks : (i : ℕ) → getD (lockRules s) i true ≡ true = λ i. every-at (lockRules s) i (every-at groups 3 e) in
+    let room : (i : ℕ) → getD (roomRules s) i true ≡ true = λ i. every-at (roomRules s) i (every-at groups 4 e) in
     record {
-      few = leb-true _ _ (t 0);
-      entries = below-true _ _ (t 1);
-      apart = λ n h. below-true _ _ (below-true _ _ (t 2) n h);
-      short = leb-true _ _ (t 3);
-      lines = below-true _ _ (t 4);
-      bounded = leb-true _ _ (t 5);
-      rows = below-true _ _ (t 6);
-      distinct = λ i h. below-true _ _ (below-true _ _ (t 7) i h);
-      locks = below-true _ _ (t 8);
-      packedLock = t 9;
-      room = leb-true _ _ (t 10);
+      few = leb-true _ _ (names 0);
+      entries = below-true _ _ (names 1);
+      apart = λ n h. below-true _ _ (below-true _ _ (names 2) n h);
+      short = leb-true _ _ (lines 0);
+      lines = below-true _ _ (lines 1);
+      bounded = leb-true _ _ (rows 0);
+      rows = below-true _ _ (rows 1);
+      distinct = λ i h. below-true _ _ (below-true _ _ (rows 2) i h);
+      locks = below-true _ _ (locks 0);
+      packedLock = locks 1;
+      room = leb-true _ _ (room 0);
     }
 
-pub true-fine : (s : Store) → Fine s → fine s ≡ true
-unfolding fine
-true-fine s f =
-    true-both (le-leb _ _ (f .few))
-    (true-both (true-below _ _ (f .entries))
-    (true-both (true-below _ _ (λ n h. true-below _ _ (f .apart n h)))
-    (true-both (le-leb _ _ (f .short))
-    (true-both (true-below _ _ (f .lines))
-    (true-both (le-leb _ _ (f .bounded))
-    (true-both (true-below _ _ (f .rows))
-    (true-both (true-below _ _ (λ i h. true-below _ _ (f .distinct i h)))
-    (true-both (true-below _ _ (f .locks))
-    (true-both (f .packedLock)
-    (true-both (le-leb _ _ (f .room)) refl))))))))))
+module _ (s : Store) (f : Fine s) where
+  names-hold : fineNames s ≡ true
+  unfolding fineNames
+  names-hold =
+      true-both (le-leb _ _ (f .few))
+      (true-both (true-below _ _ (f .entries))
+      (true-both (true-below _ _ (λ n h. true-below _ _ (f .apart n h))) refl))
+
+  lines-hold : fineLines s ≡ true
+  unfolding fineLines
+  lines-hold = true-both (le-leb _ _ (f .short)) (true-both (true-below _ _ (f .lines)) refl)
+
+  rows-hold : fineRows s ≡ true
+  unfolding fineRows
+  rows-hold =
+      true-both (le-leb _ _ (f .bounded))
+      (true-both (true-below _ _ (f .rows))
+      (true-both (true-below _ _ (λ i h. true-below _ _ (f .distinct i h))) refl))
+
+  locks-hold : fineLocks s ≡ true
+  unfolding fineLocks
+  locks-hold = true-both (true-below _ _ (f .locks)) (true-both (f .packedLock) refl)
+
+  room-holds : fineRoom s ≡ true
+  unfolding fineRoom
+  room-holds = true-both (le-leb _ _ (f .room)) refl
+
+  pub true-fine : fine s ≡ true
+  unfolding fine
+  true-fine = true-both names-hold (true-both lines-hold (true-both rows-hold (true-both locks-hold (true-both room-holds refl))))
 
 pub fine-iff : (s : Store) → (fine s ≡ true) ↔ Fine s
 fine-iff s = (fine-true s, true-fine s)

@@ -26,7 +26,8 @@ use Rattle.model.specs.declared.Packed.{Packed}
 use Rattle.model.specs.declared.Packed.the-variants as packed
 use Rattle.model.specs.Store.{Entry, isNone, isPacked, putLoose, putPacked}
 use Rattle.model.specs.Read.{packedValue, looseOr, valueOf}
-use Rattle.model.specs.Rows.{packsUpdates, isObject, isSymbolic}
+use Rattle.target.specs.Target.{isObject, isSymbolic}
+use Rattle.model.specs.Rows.{packsUpdates}
 use Rattle.model.proofs.RowSteps.{directIf, goesIf, looseSet, packedMoved, looseGone, setPacked}
 
 -- a row of the change c, in a mode, of a name with the entry e, packable or not (p), the packed table opened or not (o):

@@ -22,8 +22,8 @@ use Rattle.model.specs.Load.Lockable.{name, packedTable}
 -- ---- transactions
 
 -- prepare gives the row count
-unfoldable pub prepared : List ℕ → ℕ → Store → Reply
-prepared list mode s = do
+unfoldable pub rowsPrepared : List ℕ → ℕ → Store → Reply
+rowsPrepared list mode s = do
   p ← rowsFor list mode s
   done (held p s) (number (length (p .rows)))
 
@@ -73,7 +73,7 @@ step (lockName n) s = placed (name n) s
 step (unlockName n) s = lifted (name n) s
 step lockPacked s = placed packedTable s
 step unlockPacked s = lifted packedTable s
-step (prepare list mode) s = prepared list mode s
+step (prepare list mode) s = rowsPrepared list mode s
 step (commit committer allowance) s = committed committer allowance s
 step rollback s = rolledBack s
 step (readName n) s = nameRead n s

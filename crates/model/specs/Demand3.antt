@@ -5,7 +5,7 @@ use mathlib.Core.Bool.{true, false, cond}
 use mathlib.Core.List.{List, [], _∷_, map}
 use mathlib.Core.Logic.{_⊎_}
 use mathlib.Core.Option.{Option, none, some}
-use Prim.Native.Nat.{ℕ, _≤_, _<_}
+use Prim.Native.Nat.{ℕ, _≤_, _<_, min}
 use lib.ListN.{length, take}
 use lib.Dec.{eqb}
 use Rattle.target.specs.declared.NameNumber.{NameNumber}
@@ -85,21 +85,24 @@ pub record Deletes (s : Store) (r : Edit) : Type 0 where
 
 -- ---- a
 
--- Stopping after k writes leaves the refs and logs from before with exactly the first k of the ordered writes made, the
--- transaction gone and our locks free, other locks as they were; and the count reported is k.
+-- Commit with an allowance of k writes, whatever k is, leaves the refs and logs from before with exactly the first k of the
+-- ordered writes made, or all where there are fewer; the setting as it was, the transaction gone and our locks free, other locks as
+-- they were; and the count reported is that of the writes made, the least of k and the list's length.
 pub record StoppedAt (c k : ℕ) (s : Store) : Type 0 where
-  pub count : reported (step (commit c k) s) ≡ some k
+  pub count : reported (step (commit c k) s) ≡ some (min k (length (commitWrites c s)))
   pub refs : refs (stopAt c k s) ≡ refs (applyAll (take k (commitWrites c s)) s)
   pub logs : stopAt c k s .lines ≡ applyAll (take k (commitWrites c s)) s .lines
+  pub setting : stopAt c k s .setting ≡ s .setting
   pub gone : stopAt c k s .prepared ≡ none
   pub free : (n : ℕ) → isLock Ours (entryAt (stopAt c k s) n .lock) ≡ false
   pub packedFree : isLock Ours (stopAt c k s .packedLock) ≡ false
   pub foreign : (n : ℕ) → isLock Foreign (entryAt (stopAt c k s) n .lock) ≡ isLock Foreign (entryAt s n .lock)
+  pub packedForeign : isLock Foreign (stopAt c k s .packedLock) ≡ isLock Foreign (s .packedLock)
 
 abbrev pub A : Type 0
 A =
     (s : Store) → Reached s → isPrepared (s .prepared) ≡ true
-    → (c : ℕ) → c ≤ 65535 → (k : ℕ) → k ≤ length (commitWrites c s) → StoppedAt c k s
+    → (c : ℕ) → c ≤ 65535 → (k : ℕ) → StoppedAt c k s
 
 -- ---- b
 

@@ -125,20 +125,53 @@ pub record Fine (s : Store) : Type 0 where
   pub packedLock : finePackedLock s ≡ true
   pub room : length (s .lines) + length (dueLines s (rowsIn (s .prepared))) ≤ 1024
 
-abbrev pub tests : Store → List Bool
-tests s =
+-- ---- the same as a test, in groups: a rule stands in one group's list
+
+-- names and their values
+abbrev pub nameRules : Store → List Bool
+nameRules s =
     leb (count s) 256
     ∷ below (count s) (λ n. fineEntry (count s) (entryAt s n))
     ∷ below (count s) (λ n. below n (apartNames s n))
-    ∷ leb (length (s .lines)) 1024
-    ∷ below (length (s .lines)) (λ i. fineLine (count s) (getD (s .lines) i noLine))
-    ∷ leb (length (rowsIn (s .prepared))) 160
-    ∷ below (length (rowsIn (s .prepared))) (fineRow (count s) (rowsIn (s .prepared)))
-    ∷ below (length (rowsIn (s .prepared))) (λ i. below i (apartRows (rowsIn (s .prepared)) i))
-    ∷ below (count s) (fineLock s)
-    ∷ finePackedLock s
-    ∷ leb (length (s .lines) + length (dueLines s (rowsIn (s .prepared)))) 1024
     ∷ []
 
+-- log lines
+abbrev pub lineRules : Store → List Bool
+lineRules s =
+    leb (length (s .lines)) 1024
+    ∷ below (length (s .lines)) (λ i. fineLine (count s) (getD (s .lines) i noLine))
+    ∷ []
+
+-- rows of a prepared transaction
+abbrev pub rowRules : Store → List Bool
+rowRules s =
+    leb (length (rowsIn (s .prepared))) 160
+    ∷ below (length (rowsIn (s .prepared))) (fineRow (count s) (rowsIn (s .prepared)))
+    ∷ below (length (rowsIn (s .prepared))) (λ i. below i (apartRows (rowsIn (s .prepared)) i))
+    ∷ []
+
+-- which locks are ours
+abbrev pub lockRules : Store → List Bool
+lockRules s = below (count s) (fineLock s) ∷ finePackedLock s ∷ []
+
+-- room for the lines that are due
+abbrev pub roomRules : Store → List Bool
+roomRules s = leb (length (s .lines) + length (dueLines s (rowsIn (s .prepared)))) 1024 ∷ []
+
+unfoldable pub fineNames : Store → Bool
+fineNames s = every (nameRules s)
+
+unfoldable pub fineLines : Store → Bool
+fineLines s = every (lineRules s)
+
+unfoldable pub fineRows : Store → Bool
+fineRows s = every (rowRules s)
+
+unfoldable pub fineLocks : Store → Bool
+fineLocks s = every (lockRules s)
+
+unfoldable pub fineRoom : Store → Bool
+fineRoom s = every (roomRules s)
+
 unfoldable pub fine : Store → Bool
-fine s = every (tests s)
+fine s = every (fineNames s ∷ fineLines s ∷ fineRows s ∷ fineLocks s ∷ fineRoom s ∷ [])

@@ -6,8 +6,7 @@ use lib.ListN.{getD}
 use lib.Dec.{eqb, leb}
 use Rattle.target.specs.declared.NameNumber.{NameNumber}
 use Rattle.target.specs.declared.OptionTarget.{OptionTarget}
-use Rattle.target.specs.Target.{sameOption}
-use Rattle.target.specs.Fields.{targetByte}
+use Rattle.target.specs.Target.{sameOption, isObject, isSymbolic}
 use Rattle.transaction.specs.declared.Change.{Change}
 use Rattle.transaction.specs.declared.ParentIndex.{ParentIndex}
 use Rattle.transaction.specs.declared.ParentIndex.the-variants.{NoParent, Parent}
@@ -29,13 +28,6 @@ changeIn r = r .update .change
 
 abbrev pub rowAt : List Edit → ℕ → Edit
 rowAt rows i = getD rows i noRow
-
--- an update to an object, an update to a symbolic link
-abbrev pub isObject : OptionTarget → Bool
-isObject t = eqb (targetByte t) 1
-
-abbrev pub isSymbolic : OptionTarget → Bool
-isSymbolic t = eqb (targetByte t) 2
 
 -- ---- the climb from row to parent: it ends, since each parent's place is smaller
 

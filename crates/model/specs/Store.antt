@@ -137,5 +137,16 @@ withLines s ls = record { entries = s .entries; packedLock = s .packedLock; line
 abbrev pub withPackedLock : Store → Lock → Store
 withPackedLock s l = record { entries = s .entries; packedLock = l; lines = s .lines; setting = s .setting; prepared = s .prepared }
 
+abbrev pub withPrepared : Store → Option Prepared → Store
+withPrepared s p = record { entries = s .entries; packedLock = s .packedLock; lines = s .lines; setting = s .setting; prepared = p }
+
+-- other rows under the mode that is there; with nothing prepared there is no place for one
+abbrev pub rowsAs : List Edit → Option Prepared → Option Prepared
+rowsAs rows none = none
+rowsAs rows (some p) = some (record { mode = p .mode; rows = rows })
+
+abbrev pub withRows : Store → List Edit → Store
+withRows s rows = withPrepared s (rowsAs rows (s .prepared))
+
 abbrev pub changeEntry : (Entry → Entry) → ℕ → Store → Store
 changeEntry f n s = withEntries s (changeAt f n (s .entries))

@@ -14,7 +14,8 @@ use Rattle.target.specs.declared.Target.{Target}
 use Rattle.target.specs.declared.Target.the-variants.{Object, Symbolic}
 use Rattle.target.specs.declared.OptionTarget.{OptionTarget}
 use Rattle.target.specs.declared.OptionTarget.the-variants.{Absent, Present}
-use Rattle.target.specs.Target.{tryId, isNull, same, sameName, sameObject, sameOption}
+use Rattle.target.specs.Target.{tryId, isNull, same, sameName, sameObject, sameOption, isObject, isSymbolic}
+use Rattle.target.specs.Fields.{targetByte}
 
 pub no-id-not-null : (t : Target) (r : OptionObject) → r ≡ tryId t → r ≡ NoId → false ≡ isNull t
 no-id-not-null (Object o) r p q = absurd (let z : _≡_ {A = ℕ} 0 1 = cc in omega arith)
@@ -71,3 +72,15 @@ option-refl (Present a) = same-refl a
 
 pub option-false : (a b : OptionTarget) → sameOption a b ≡ false → a ≡ b → ⊥
 option-false = apart sameOption option-refl
+
+-- ---- a kind byte tells an object and a link
+
+pub object-is : (t : OptionTarget) (b : ℕ) → b ≡ targetByte t → eqb b 1 ≡ isObject t
+object-is Absent b e = rw e
+object-is (Present (Object o)) b e = rw e
+object-is (Present (Symbolic n)) b e = rw e
+
+pub symbolic-is : (t : OptionTarget) (b : ℕ) → b ≡ targetByte t → eqb b 2 ≡ isSymbolic t
+symbolic-is Absent b e = rw e
+symbolic-is (Present (Object o)) b e = rw e
+symbolic-is (Present (Symbolic n)) b e = rw e

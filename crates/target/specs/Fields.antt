@@ -10,9 +10,9 @@ use Rattle.target.specs.declared.Target.the-variants.{Object, Symbolic}
 use Rattle.target.specs.declared.OptionTarget.{OptionTarget}
 use Rattle.target.specs.declared.OptionTarget.the-variants.{Absent, Present}
 
--- up to 256 names, numbered from 0
-abbrev pub nameOf : ℕ → OptionName
-nameOf n = cond (ltb n 256) (Name (record { 0 = n })) NoName
+-- names are numbered from 0, where so many are registered
+abbrev pub nameBelow : ℕ → ℕ → OptionName
+nameBelow names n = cond (ltb n names) (Name (record { 0 = n })) NoName
 
 -- 0 is the null id
 abbrev pub objectOf : ℕ → OptionObject

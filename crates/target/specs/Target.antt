@@ -51,3 +51,14 @@ tryName (Symbolic n) = Name n
 abbrev pub isNull : Target → Bool
 isNull (Object o) = eqb (o .0) 0
 isNull (Symbolic n) = false
+
+-- what may be missing is there, and is an object, a link
+abbrev pub isObject : OptionTarget → Bool
+isObject Absent = false
+isObject (Present (Object o)) = true
+isObject (Present (Symbolic n)) = false
+
+abbrev pub isSymbolic : OptionTarget → Bool
+isSymbolic Absent = false
+isSymbolic (Present (Object o)) = false
+isSymbolic (Present (Symbolic n)) = true

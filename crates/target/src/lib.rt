@@ -3,8 +3,10 @@
 // An object number stands for the Rust's ObjectId, a name number for its FullName. The planner has confused the two
 // counts before, so each is a type of its own. Option<T> becomes an enum for each T.
 ghost use mathlib.Core.Path.{_≡_};
+ghost use Prim.Native.Nat.{_<_, _≤_};
 ghost use Rattle.target.specs.Target.{isNull, kindOf, tryId, tryName, same, sameName, sameObject, sameOption};
-ghost use Rattle.target.specs.Fields.{nameOf, objectOf, targetByte, targetNumber};
+ghost use Rattle.target.specs.Target.{isObject, isSymbolic};
+ghost use Rattle.target.specs.Fields.{nameBelow, objectOf, targetByte, targetNumber};
 
 // The number of a registered name, from 0 in order of arrival.
 pub struct NameNumber(pub u16);
@@ -17,19 +19,34 @@ pub enum OptionName {
 
 impl NameNumber {
     // 256 names, numbered from 0.
-    pub const LIMIT: u64 = 256;
+    pub const LIMIT: usize = 256;
     // A name has 1 to 64 bytes.
     pub const LONGEST: usize = 64;
 
-    // The name's number, from all 64 bits that a caller passed.
-    pub fn new(number: u64) -> OptionName
-        ensures { λ r. ⌜ r ≡ nameOf number ⌝ }
+    // The name of a number, from all 64 bits that a caller passed, where so many names are registered.
+    pub fn new(number: u64, names: usize) -> OptionName
+        requires { ⌜ names ≤ 256 ⌝ }
+        ensures { λ r. ⌜ r ≡ nameBelow names number ⌝ }
     {
-        if number < NameNumber::LIMIT {
+        if number < (names as u64) {
             OptionName::Name(NameNumber(number as u16))
         } else {
             OptionName::NoName
         }
+    }
+
+    // The name at a place in the order of arrival, and that place.
+    pub fn at(place: usize) -> NameNumber
+        requires { ⌜ place < 256 ⌝ }
+        ensures { λ r. ⌜ r ≡ record { 0 = place } ⌝ }
+    {
+        NameNumber(place as u16)
+    }
+
+    pub fn place(self) -> usize
+        ensures { λ r. ⌜ r ≡ self .0 ⌝ }
+    {
+        self.0 as usize
     }
 
     pub fn eq(self, other: NameNumber) -> bool
@@ -166,6 +183,18 @@ impl OptionTarget {
             Target::Object(_) => OptionTarget::OBJECT,
             Target::Symbolic(_) => OptionTarget::SYMBOLIC,
         }
+    }
+
+    pub fn is_object(self) -> bool
+        ensures { λ r. ⌜ r ≡ isObject self ⌝ }
+    {
+        self.byte() == OptionTarget::OBJECT
+    }
+
+    pub fn is_symbolic(self) -> bool
+        ensures { λ r. ⌜ r ≡ isSymbolic self ⌝ }
+    {
+        self.byte() == OptionTarget::SYMBOLIC
     }
 
     // Both absent, or both present and the same.

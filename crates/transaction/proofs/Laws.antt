@@ -5,17 +5,23 @@ use mathlib.Core.Path.{_≡_, refl, sym, ap, _∙_}
 use mathlib.Core.Bool.{Bool, true, false, not, _&&_}
 use native.Mathlib.Omega.{arith}
 use borrow.Author.Tests.{not-true, not-false}
+use lib.Dec.{eqb}
 use Rattle.target.specs.declared.ObjectNumber.{ObjectNumber}
 use Rattle.target.specs.declared.Target.{Target}
 use Rattle.target.specs.declared.OptionTarget.the-variants.{Absent, Present}
 use Rattle.transaction.specs.declared.OptionRefLog.the-variants.{NoRefLog}
 use Rattle.transaction.specs.declared.OptionPrevious.the-variants.{NoPrevious}
 use Rattle.transaction.specs.declared.OptionPackedRefs.the-variants.{NoMode}
+use Rattle.transaction.specs.declared.RefLog.{RefLog}
+use Rattle.transaction.specs.declared.RefLog.the-variants.{AndReference, Only}
+use Rattle.transaction.specs.declared.LogChange.{LogChange}
+use Rattle.transaction.specs.declared.Change.{Change}
+use Rattle.transaction.specs.declared.Change.the-variants.{Update, Delete}
 use Rattle.transaction.specs.declared.RefEdit.{RefEdit}
 use Rattle.transaction.specs.declared.ParentIndex.the-variants.{NoParent}
 use Rattle.transaction.specs.declared.Edit.{Edit}
-use Rattle.transaction.specs.Change.{rowOf}
-use Rattle.transaction.specs.Fields.{refLogOf, previousOf, packedRefsOf}
+use Rattle.transaction.specs.Change.{rowOf, logChange, isOnly, isLogOnly, isDelete}
+use Rattle.transaction.specs.Fields.{refLogByte, refLogOf, previousOf, packedRefsOf, changeByte}
 
 -- past the numbers of an enum
 pub no-ref-log : (n : ℕ) → (n ≡ 0 → ⊥) → (n ≡ 1 → ⊥) → NoRefLog ≡ refLogOf n
@@ -73,3 +79,15 @@ row-begins e o h = ap (λ (n : ℕ). rowAt n) h
   where
     rowAt : ℕ → Edit
     rowAt n = record { update = e; «parent_index» = NoParent; «leaf_referent_previous_oid» = record { 0 = n } }
+
+-- a field's byte tells its case
+pub only-is : (c : Change) (l : LogChange) (b : ℕ) → l ≡ logChange c → b ≡ refLogByte (l .mode) → eqb b 1 ≡ isLogOnly c
+only-is c l b e f = rw f (ap (λ (x : LogChange). eqb (refLogByte (x .mode)) 1) e ∙ told (logChange c .mode))
+  where
+    told : (m : RefLog) → eqb (refLogByte m) 1 ≡ isOnly m
+    told AndReference = refl
+    told Only = refl
+
+pub delete-is : (c : Change) (b : ℕ) → b ≡ changeByte c → eqb b 2 ≡ isDelete c
+delete-is (Update log expected new) b e = rw e
+delete-is (Delete expected log) b e = rw e

@@ -51,17 +51,18 @@ abbrev pub previousOid : Change → OptionObject
 previousOid c = idOf (previousValue c)
 
 -- what a change says of its log: a deletion has no force and no message
+abbrev pub logChange : Change → LogChange
+logChange (Update log expected new) = log
+logChange (Delete expected log) = record { mode = log; «force_create_reflog» = false; message = 0 }
+
 abbrev pub logOf : Change → RefLog
-logOf (Update log expected new) = log .mode
-logOf (Delete expected log) = log
+logOf c = logChange c .mode
 
 abbrev pub forceOf : Change → Bool
-forceOf (Update log expected new) = log .«force_create_reflog»
-forceOf (Delete expected log) = false
+forceOf c = logChange c .«force_create_reflog»
 
 abbrev pub messageOf : Change → ℕ
-messageOf (Update log expected new) = log .message
-messageOf (Delete expected log) = 0
+messageOf c = logChange c .message
 
 abbrev pub isOnly : RefLog → Bool
 isOnly AndReference = false

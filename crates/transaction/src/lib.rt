@@ -2,6 +2,7 @@
 // src/store/file/transaction/mod.rs that a store holds: the row (Edit) and PackedRefs.
 ghost use mathlib.Core.Path.{_≡_};
 ghost use Rattle.transaction.specs.Change.{newValue, previousValue, previousOid, defaultLog, expectedTarget, rowOf};
+ghost use Rattle.transaction.specs.Change.{expectedOf, logChange, isLogOnly, isDelete, matched, existingIn};
 ghost use Rattle.transaction.specs.Fields.{refLogByte, refLogOf, previousByte, previousOf, changeByte};
 ghost use Rattle.transaction.specs.Fields.{packedRefsNumber, packedRefsOf};
 ghost use Rattle.transaction.specs.Same.{sameRefLog, sameLogChange, samePrevious, sameChange, sameUpdate, sameDelete, sameRefEdit};
@@ -159,6 +160,19 @@ impl PreviousValue {
         }
     }
 
+    // The target that a prepared row was judged to match, if it was: 3 has it, anything else found nothing.
+    pub fn matched(self) -> OptionTarget
+        ensures { λ r. ⌜ r ≡ matched self ⌝ }
+    {
+        match self {
+            PreviousValue::Any => OptionTarget::Absent,
+            PreviousValue::MustExist => OptionTarget::Absent,
+            PreviousValue::MustNotExist => OptionTarget::Absent,
+            PreviousValue::MustExistAndMatch(t) => OptionTarget::Present(t),
+            PreviousValue::ExistingMustMatch(_) => OptionTarget::Absent,
+        }
+    }
+
     pub fn eq(self, other: PreviousValue) -> bool
         ensures { λ r. ⌜ r ≡ samePrevious self other ⌝ }
     {
@@ -220,18 +234,63 @@ impl Change {
         }
     }
 
-    // The previous observed value: the target that is expected with 3 and 4.
-    pub fn previous_value(self) -> OptionTarget
-        ensures { λ r. ⌜ r ≡ previousValue self ⌝ }
+    pub fn expected(self) -> PreviousValue
+        ensures { λ r. ⌜ r ≡ expectedOf self ⌝ }
     {
         match self {
             Change::Update {
                 log: _,
                 expected,
                 new: _,
-            } => expected.target(),
-            Change::Delete { expected, log: _ } => expected.target(),
+            } => expected,
+            Change::Delete { expected, log: _ } => expected,
         }
+    }
+
+    // The previous observed value: the target that is expected with 3 and 4.
+    pub fn previous_value(self) -> OptionTarget
+        ensures { λ r. ⌜ r ≡ previousValue self ⌝ }
+    {
+        self.expected().target()
+    }
+
+    // Of a prepared row, the value that it found.
+    pub fn existing(self) -> OptionTarget
+        ensures { λ r. ⌜ r ≡ existingIn self ⌝ }
+    {
+        self.expected().matched()
+    }
+
+    // What a change says of its log. A deletion has no force and no message.
+    pub fn log(self) -> LogChange
+        ensures { λ r. ⌜ r ≡ logChange self ⌝ }
+    {
+        match self {
+            Change::Update {
+                log,
+                expected: _,
+                new: _,
+            } => log,
+            Change::Delete { expected: _, log } => LogChange {
+                mode: log,
+                force_create_reflog: false,
+                message: 0,
+            },
+        }
+    }
+
+    pub fn is_log_only(self) -> bool
+        ensures { λ r. ⌜ r ≡ isLogOnly self ⌝ }
+    {
+        let log = self.log();
+        let mode = log.mode;
+        mode.byte() == RefLog::ONLY
+    }
+
+    pub fn is_delete(self) -> bool
+        ensures { λ r. ⌜ r ≡ isDelete self ⌝ }
+    {
+        self.byte() == Change::DELETE
     }
 
     // The previous observed value where it is an object: what R5 hands to the ancestors.

@@ -79,13 +79,13 @@ matching k t w = record { kind = w .kind; deref = w .deref; log = w .log; expect
 abbrev pub expecting : ℕ → Wish → Wish
 expecting k w = matching k noTarget w
 
-abbrev pub recordOf : Wish → List ℕ
-recordOf w =
+abbrev pub wishBytes : Wish → List ℕ
+wishBytes w =
     w .kind ∷ w .deref ∷ w .log ∷ 0 ∷ w .expected ∷ w .was ++ w .new ++ be 2 (w .name) ++ be 2 (w .message)
 
 -- the bytes of a list of edits
 unfoldable pub list : List Wish → List ℕ
-list ws = 1 ∷ be 2 (1 + length ws * 27) ++ (length ws ∷ collect recordOf ws)
+list ws = 1 ∷ be 2 (1 + length ws * 27) ++ (length ws ∷ collect wishBytes ws)
 
 -- ---- writes, by committer 1 and with message 3
 

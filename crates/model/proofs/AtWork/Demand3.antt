@@ -42,8 +42,8 @@ stocked =
     site
     ++ (addName (text "refs/heads/Bay") ∷ prepare (list (update aisle (object 5) ∷ update bay (object 4) ∷ [])) 1 ∷ commit 1 100 ∷ [])
 
-abbrev prepared : List (List Call)
-prepared =
+abbrev transactions : List (List Call)
+transactions =
     (site ++ (prepare (list (through (update HEAD (object 7)) ∷ [])) 1 ∷ []))
     ∷ (stocked ++ (loadPacked aisle 1 3 ∷ prepare (list (delete aisle ∷ [])) 1 ∷ []))
     ∷ (stocked ++ (prepare (list (delete bay ∷ through (update HEAD (object 7)) ∷ [])) 1 ∷ []))
@@ -62,7 +62,7 @@ storesOf [] = []
 storesOf (cs ∷ css) = withStore (making cs (some blank)) (storesOf css)
 
 abbrev stores : List Store
-stores = storesOf prepared
+stores = storesOf transactions
 
 -- 0 to n
 abbrev upTo : ℕ → List ℕ

@@ -81,6 +81,15 @@ marked =
       lines = prepare (list (through (matching 3 (object 9) (delete HEAD)) ∷ [])) 1 ⇒ answer 12 (HEAD ∷ 1 ∷ 9 ∷ 2 ∷ aisle ∷ []) ∷ [];
     }
     ∷ record {
+      title = "P4 after P3, where the aisle that HEAD leads to reads 9: 12 on HEAD all the same, actual the link";
+      store = blank;
+      made = site ++ moved whole ++ moved (list (through (update HEAD (object 9)) ∷ [])) ++ moved (list (through (update HEAD (object 9)) ∷ []));
+      lines =
+          readName aisle ⇒ answer 0 (1 ∷ 9 ∷ [])
+          ∷ prepare (list (through (matching 3 (object 9) (delete HEAD)) ∷ [])) 1 ⇒ answer 12 (HEAD ∷ 1 ∷ 9 ∷ 2 ∷ aisle ∷ [])
+          ∷ [];
+    }
+    ∷ record {
       title = "P5: four hops pass";
       store = blank;
       made = hops 4;
