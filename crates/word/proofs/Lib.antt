@@ -1,6 +1,7 @@
 pub mod Be
 pub mod Tests
 pub mod Cut
+pub mod Parts
 pub mod Table
 pub mod Fields
 pub mod Slots

@@ -1,7 +1,7 @@
 -- Laws of tables: slots read, slots written, and a list that is a table by its slots. Assumes nothing.
 use mathlib.Core.Path.{_≡_, refl, sym, ap, ap₂, _∙_}
 use mathlib.Core.List.{List, [], _∷_, _++_, append-nil}
-use Prim.Native.Nat.{ℕ, zero, suc, _+_, _*_, _<_, _≤_}
+use Prim.Native.Nat.{ℕ, zero, suc, _+_, _-_, _*_, _<_, _≤_}
 use native.Mathlib.Nat.{not-suc-le-zero, le-of-suc-le-suc, suc-mul, zero-mul}
 use native.Mathlib.Omega.{arith}
 use lib.ListN.{length, take, drop, getD, set, replicate}
@@ -160,6 +160,29 @@ module _ {A : Type 0} (w : ℕ) (enc : A → List ℕ) (wide : (x : A) → lengt
   clear-table (suc c) (y ∷ xs) x h =
       put-next w (enc y) (table c enc w (xs ++ (x ∷ []))) (wide y) (length xs) (replicate w 0)
       ∙ ap (λ (l : List ℕ). enc y ++ l) (clear-table c xs x (le-of-suc-le-suc h))
+
+  -- the slots from the j-th on cleared are the first j elements
+  pub keep-table : (c j : ℕ) (xs : List A) → j ≤ c → j ≤ length xs
+      → put (j * w) ((c - j) * w) (table c enc w xs) (replicate ((c - j) * w) 0) ≡ table c enc w (take j xs)
+  unfolding table
+  keep-table c zero xs h g =
+      let e : length (table c enc w xs) ≤ c * w = let n : length (table c enc w xs) ≡ c * w = length-table c xs in omega arith in
+      let m : c - 0 ≡ c = omega arith in
+      ap (λ (d : ℕ). put (0 * w) (d * w) (table c enc w xs) (replicate (d * w) 0)) m
+      ∙ ap (λ (k : ℕ). put k (c * w) (table c enc w xs) (replicate (c * w) 0)) (zero-mul w)
+      ∙ ap (λ (l : List ℕ). replicate (c * w) 0 ++ l) (drop-of-length-le (table c enc w xs) e)
+      ∙ append-nil (replicate (c * w) 0)
+      ∙ sym (drop-all c enc w)
+  keep-table zero (suc j) xs h g = absurd (not-suc-le-zero h)
+  keep-table (suc c) (suc j) [] h g = absurd (not-suc-le-zero g)
+  keep-table (suc c) (suc j) (x ∷ xs) h g =
+      let e : suc j * w ≡ length (enc x) + j * w = let n : length (enc x) ≡ w = wide x in rw suc-mul (omega arith) in
+      let z : List ℕ = replicate ((c - j) * w) 0 in
+      let m : suc c - suc j ≡ c - j = omega arith in
+      ap (λ (d : ℕ). put (suc j * w) (d * w) (enc x ++ table c enc w xs) (replicate (d * w) 0)) m
+      ∙ ap (λ (k : ℕ). put k ((c - j) * w) (enc x ++ table c enc w xs) z) e
+      ∙ put-right (j * w) ((c - j) * w) (enc x) (table c enc w xs) z
+      ∙ ap (λ (l : List ℕ). enc x ++ l) (keep-table c j xs (omega arith) (omega arith))
 
 -- a list whose slots are the forms, and then zeros, is the table
 pub table-ext : {A : Type 0} (w : ℕ) (enc : A → List ℕ) (c : ℕ) (xs : List A) (d : A) (r : List ℕ) → length r ≡ c * w

@@ -1,9 +1,10 @@
-// Bytes: big-endian numbers of one to eight of them, and the three things that every other layer does with a part of a
-// slice. One reader and one writer serve every width: the width is the length of the part that is lent.
+// Bytes: big-endian numbers of one to eight of them, and what every other layer does with a part of a slice. One reader and one
+// writer serve every width: the width is the length of the part that is lent.
 ghost use mathlib.Core.Path.{_≡_};
-ghost use Prim.Native.Nat.{_≤_};
-ghost use lib.ListN.{length};
-ghost use Rattle.word.specs.Be.{val, be};
+ghost use Prim.Native.Nat.{_+_, _≤_};
+ghost use lib.ListN.{length, replicate};
+ghost use Rattle.word.specs.Be.{cut, val, be};
+ghost use Rattle.word.specs.Cut.{put};
 ghost use Rattle.word.specs.Tests.{sameList};
 ghost use Rattle.word.specs.Codec.{zeros};
 
@@ -23,19 +24,20 @@ pub fn get(s: &[u8]) -> u64
     acc
 }
 
-// A number of one byte, and of two.
-pub fn get8(s: &[u8]) -> u8
-    requires { ⌜ length (now s) ≡ 1 ⌝ }
-    ensures { λ r. ⌜ r ≡ val (now (s .entry)) ⌝ }
+// The number of `width` bytes from the at-th on, and of two of them.
+pub fn get_at(s: &[u8], at: usize, width: usize) -> u64
+    requires { ⌜ (at + width ≤ length (now s)) × (width ≤ 8) ⌝ }
+    ensures { λ r. ⌜ r ≡ val (cut at width (now (s .entry))) ⌝ }
 {
-    s[0]
+    let e = at + width;
+    get(&s[at..e])
 }
 
-pub fn get16(s: &[u8]) -> u16
-    requires { ⌜ length (now s) ≡ 2 ⌝ }
-    ensures { λ r. ⌜ r ≡ val (now (s .entry)) ⌝ }
+pub fn get16_at(s: &[u8], at: usize) -> u16
+    requires { ⌜ at + 2 ≤ length (now s) ⌝ }
+    ensures { λ r. ⌜ r ≡ val (cut at 2 (now (s .entry))) ⌝ }
 {
-    get(s) as u16
+    get_at(s, at, 2) as u16
 }
 
 // The low bytes of x, as many as s has, the highest first.
@@ -51,26 +53,13 @@ pub fn put(s: &mut [u8], x: u64)
     }
 }
 
-// Numbers of one, two and eight bytes.
-pub fn put8(s: &mut [u8], x: u8)
-    requires { ⌜ length (now s) ≡ 1 ⌝ }
-    ensures { λ _. ⌜ now (s .exit) ≡ be 1 x ⌝ }
+// The low bytes of x, `width` of them, from the at-th byte of s on.
+pub fn put_at(s: &mut [u8], at: usize, width: usize, x: u64)
+    requires { ⌜ at + width ≤ length (now s) ⌝ }
+    ensures { λ _. ⌜ now (s .exit) ≡ put at width (now (s .entry)) (be width x) ⌝ }
 {
-    put(s, x as u64);
-}
-
-pub fn put16(s: &mut [u8], x: u16)
-    requires { ⌜ length (now s) ≡ 2 ⌝ }
-    ensures { λ _. ⌜ now (s .exit) ≡ be 2 x ⌝ }
-{
-    put(s, x as u64);
-}
-
-pub fn put64(s: &mut [u8], x: u64)
-    requires { ⌜ length (now s) ≡ 8 ⌝ }
-    ensures { λ _. ⌜ now (s .exit) ≡ be 8 x ⌝ }
-{
-    put(s, x);
+    let e = at + width;
+    put(&mut s[at..e], x);
 }
 
 // ---- parts
@@ -87,6 +76,17 @@ pub fn all_zero(s: &[u8]) -> bool
         i += 1;
     }
     true
+}
+
+// Every byte becomes 0.
+pub fn put_zeros(s: &mut [u8])
+    ensures { λ _. ⌜ now (s .exit) ≡ replicate (length (now (s .entry))) 0 ⌝ }
+{
+    let mut i = 0;
+    while i < s.len() {
+        s[i] = 0;
+        i += 1;
+    }
 }
 
 // The two are as long, and byte by byte the same.
