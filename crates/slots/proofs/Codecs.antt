@@ -21,12 +21,11 @@ use Rattle.model.specs.declared.Lock.{Lock}
 use Rattle.model.specs.declared.Lock.the-variants.{Free}
 use Rattle.model.specs.declared.Line.{Line}
 use Rattle.model.specs.Store.{noLine, noRow, lockByte}
-use Rattle.model.specs.Numbers.{rowPlaces}
 use Rattle.model.proofs.Binds.{some-is}
 use Rattle.slots.specs.Values.{looseWidths, looseKind, looseNumber, looseFrom, looseForm, looseIn, FitsLoose}
 use Rattle.slots.specs.Values.{packedNumber, packedFrom, packedForm, packedIn, FitsPacked, lockFrom, lockForm, lockIn}
 use Rattle.slots.specs.Values.{lineWidths, lineNumbers, lineFrom, lineForm, lineIn, FitsLine}
-use Rattle.slots.specs.Row.{rowWidths, rowFrom, rowForm, rowIn, FitsRow}
+use Rattle.slots.specs.Row.{rowWidths, rowNumbers, rowFrom, rowForm, rowIn, FitsRow}
 use Rattle.slots.proofs.Forms.{fit-loose, loose-forth, loose-back, fit-packed, packed-forth, packed-back, fit-lock, lock-forth, lock-back, fit-row, row-forth, row-back}
 
 -- ---- loose values
@@ -146,15 +145,15 @@ lines = partly 22 lineForm lineIn noLine wide-line bytes-line read-line back-lin
 
 pub wide-row : (v : Edit) → length (rowForm v) ≡ 36
 unfolding rowForm
-wide-row v = length-fields rowWidths (rowPlaces v)
+wide-row v = length-fields rowWidths (rowNumbers v)
 
 pub bytes-row : (v : Edit) → FitsRow v → Bytes (rowForm v)
 unfolding rowForm
-bytes-row v f = bytes-fields rowWidths (rowPlaces v)
+bytes-row v f = bytes-fields rowWidths (rowNumbers v)
 
 pub read-row : (v : Edit) → FitsRow v → rowIn (rowForm v) ≡ some v
 unfolding rowForm rowIn
-read-row v f = ap rowFrom (unfields-fields rowWidths (rowPlaces v) (fit-row v f)) ∙ row-forth v f
+read-row v f = ap rowFrom (unfields-fields rowWidths (rowNumbers v) (fit-row v f)) ∙ row-forth v f
 
 pub back-row : (r : List ℕ) (v : Edit) → rowIn r ≡ some v → Bytes r → length r ≡ 36 → (rowForm v ≡ r) × FitsRow v
 unfolding rowForm rowIn

@@ -32,12 +32,12 @@ use Rattle.model.specs.declared.Packed.{Packed}
 use Rattle.model.specs.declared.Packed.the-variants as packed
 use Rattle.model.specs.declared.Lock.{Lock}
 use Rattle.model.specs.declared.Lock.the-variants.{Free, Foreign, Ours}
-use Rattle.model.specs.Store.{lockByte, isId}
-use Rattle.model.specs.EditList.{flagOf, changeOf}
-use Rattle.model.specs.Numbers.{flag, parentPlaces, rowPlaces}
+use Rattle.model.specs.Store.{lockByte}
+use Rattle.model.specs.EditList.{_>>=_, flagOf, changeOf}
+use Rattle.model.specs.Numbers.{flag}
 use Rattle.model.proofs.Binds.{none-some, some-is, cond-some, cond-none, some-then}
-use Rattle.slots.specs.Values.{looseWidths, looseKind, looseNumber, looseFrom, FitsLoose, packedNumber, packedFrom, FitsPacked, lockFrom}
-use Rattle.slots.specs.Row.{rowWidths, targetFrom, parentFrom, rowFrom, FitsOption, FitsParent, FitsRow}
+use Rattle.slots.specs.Values.{looseWidths, looseKind, looseNumber, targetFrom, unbroken, looseFrom, FitsLoose, packedNumber, packedFrom, FitsPacked, lockFrom}
+use Rattle.slots.specs.Row.{rowWidths, rowNumbers, parentFlag, parentPlace, parentFrom, rowFrom, FitsOption, FitsParent, FitsRow}
 
 -- ---- numbers that are no 0
 
@@ -51,13 +51,6 @@ some-id x e = let h : x ≡ 0 → ⊥ = eqb-false x 0 e in positive x h
     positive zero h = absurd (h refl)
     positive (suc x) h = omega arith
 
-id-low : (x : ℕ) → isId x ≡ true → 0 < x
-id-low x e = go (ltb 0 x) refl e
-  where
-    go : (t : Bool) → ltb 0 x ≡ t → (t && ltb x (2 ^ 64)) ≡ true → 0 < x
-    go true p q = ltb-true 0 x p
-    go false p q = absurd (false≢true q)
-
 -- ---- loose values
 
 pub fit-loose : (v : Loose) → FitsLoose v → Fit looseWidths (looseKind v ∷ looseNumber v ∷ [])
@@ -65,29 +58,6 @@ fit-loose loose.None f = and (lit< tt) (and (lit< tt) end)
 fit-loose (loose.Target (Object o)) f = and (lit< tt) (and (f .1) end)
 fit-loose (loose.Target (Symbolic n)) f = let h : n .0 < 2 ^ 64 = omega arith in and (lit< tt) (and h end)
 fit-loose loose.Broken f = and (lit< tt) (and (lit< tt) end)
-
-pub loose-forth : (v : Loose) → FitsLoose v → looseFrom (looseKind v) (looseNumber v) ≡ some v
-loose-forth loose.None f = refl
-loose-forth (loose.Target (Object o)) f = rw (lt-ltb 0 (o .0) (f .0), lt-ltb (o .0) (2 ^ 64) (f .1))
-loose-forth (loose.Target (Symbolic n)) f = rw (lt-leb (2 ^ 16) (n .0) f)
-loose-forth loose.Broken f = refl
-
-pub loose-back : (k x : ℕ) (v : Loose) → looseFrom k x ≡ some v → x < 2 ^ 64
-    → (looseKind v ≡ k) × (looseNumber v ≡ x) × FitsLoose v
-loose-back zero x v e h =
-    let c = cond-some (eqb x 0) (some loose.None) v e in
-    rw (← some-is (c .1)) (refl, sym (eqb-true x 0 (c .0)), tt)
-loose-back (suc zero) x v e h =
-    let c = cond-some (isId x) (some (loose.Target (Object (record { 0 = x })))) v e in
-    rw (← some-is (c .1)) (refl, refl, (id-low x (c .0), h))
-loose-back (suc (suc zero)) x v e h =
-    let c = cond-none (leb (2 ^ 16) x) (some (loose.Target (Symbolic (record { 0 = x })))) v e in
-    rw (← some-is (c .1)) (refl, refl, leb-false (2 ^ 16) x (c .0))
-loose-back (suc (suc (suc zero))) x v e h =
-    let c = cond-some (eqb x 0) (some loose.Broken) v e in
-    rw (← some-is (c .1)) (refl, sym (eqb-true x 0 (c .0)), tt)
-loose-back (suc (suc (suc (suc k)))) x v e h =
-    absurd (none-some (cond-none (eqb (suc (suc (suc (suc k)))) 2 && leb (2 ^ 16) x) none v e .1))
 
 -- ---- packed values
 
@@ -202,6 +172,35 @@ target-back (suc (suc zero)) x t e h =
 target-back (suc (suc (suc k))) x t e h =
     absurd (none-some (cond-none (eqb (suc (suc (suc k))) 2 && leb (2 ^ 16) x) none t e .1))
 
+-- ---- loose values by their targets
+
+pub loose-forth : (v : Loose) → FitsLoose v → looseFrom (looseKind v) (looseNumber v) ≡ some v
+loose-forth loose.None f = refl
+loose-forth (loose.Target (Object o)) f = rw (not-zero (o .0) (f .0))
+loose-forth (loose.Target (Symbolic n)) f = rw (lt-leb (2 ^ 16) (n .0) f)
+loose-forth loose.Broken f = refl
+
+-- what is not broken has its target's numbers
+unbroken-back : (k x : ℕ) (t : OptionTarget) (v : Loose) → (targetByte t ≡ k) × (targetNumber t ≡ x) × FitsOption t → unbroken t ≡ v
+    → (looseKind v ≡ k) × (looseNumber v ≡ x) × FitsLoose v
+unbroken-back k x Absent v h e = rw (← e) h
+unbroken-back k x (Present (Object o)) v h e = rw (← e) h
+unbroken-back k x (Present (Symbolic n)) v h e = rw (← e) h
+
+pub loose-back : (k x : ℕ) (v : Loose) → looseFrom k x ≡ some v → x < 2 ^ 64
+    → (looseKind v ≡ k) × (looseNumber v ≡ x) × FitsLoose v
+loose-back k x v e h = go (eqb k 3) refl e
+  where
+    go : (b : Bool) → eqb k 3 ≡ b → cond b (cond (eqb x 0) (some loose.Broken) none) (targetFrom k x >>= λ t. some (unbroken t)) ≡ some v
+        → (looseKind v ≡ k) × (looseNumber v ≡ x) × FitsLoose v
+    go true p q =
+        let c = cond-some (eqb x 0) (some loose.Broken) v q in
+        rw (← some-is (c .1)) (sym (eqb-true k 3 p), sym (eqb-true x 0 (c .0)), tt)
+    go false p q =
+        some-then (targetFrom k x) _ v q (λ t ht q. unbroken-back k x t v (target-back k x t ht h) (some-is q))
+
+-- ---- what is expected, and the change
+
 previous-back : (k : ℕ) (t : OptionTarget) (p : PreviousValue) → previousOption (previousOf k t) ≡ some p
     → (previousByte p ≡ k) × (expectedTarget p ≡ t)
 previous-back zero Absent p e = rw (← some-is e) (refl, refl)
@@ -240,16 +239,16 @@ change-back (suc (suc zero)) l force p (Present new) m c e = absurd (none-some e
 change-back (suc (suc (suc k))) l force p new m c e = absurd (none-some e)
 
 parent-back : (k j : ℕ) (p : ParentIndex) → parentFrom k j ≡ some p → j < 2 ^ 8
-    → (parentPlaces p ≡ k ∷ j ∷ []) × FitsParent p
+    → (parentFlag p ≡ k) × (parentPlace p ≡ j) × FitsParent p
 parent-back zero j p e h =
     let c = cond-some (eqb j 0) (some NoParent) p e in
-    rw (← some-is (c .1)) (rw (eqb-true j 0 (c .0)) refl, tt)
-parent-back (suc zero) j p e h = rw (← some-is e) (refl, h)
+    rw (← some-is (c .1)) (refl, sym (eqb-true j 0 (c .0)), tt)
+parent-back (suc zero) j p e h = rw (← some-is e) (refl, refl, h)
 parent-back (suc (suc k)) j p e h = absurd (none-some e)
 
 -- ---- rows
 
-pub fit-row : (r : Edit) → FitsRow r → Fit rowWidths (rowPlaces r)
+pub fit-row : (r : Edit) → FitsRow r → Fit rowWidths (rowNumbers r)
 fit-row r f =
     and (f .name)
     (and (change-byte (r .update .change))
@@ -264,7 +263,7 @@ fit-row r f =
     (last (r .«parent_index») (f .parent)))))))))))
   where
     last : (p : ParentIndex) → FitsParent p
-        → Fit (1 ∷ 1 ∷ 8 ∷ []) (parentPlaces p ++ (r .«leaf_referent_previous_oid» .0 ∷ []))
+        → Fit (1 ∷ 1 ∷ 8 ∷ []) (parentFlag p ∷ parentPlace p ∷ r .«leaf_referent_previous_oid» .0 ∷ [])
     last NoParent g = and (lit< tt) (and (lit< tt) (and (f .leaf) end))
     last (Parent j) g = and (lit< tt) (and g (and (f .leaf) end))
 
@@ -295,7 +294,7 @@ row-of n c k j p leaf was new e =
       e,
     )
 
-pub row-forth : (r : Edit) → FitsRow r → rowFrom (rowPlaces r) ≡ some r
+pub row-forth : (r : Edit) → FitsRow r → rowFrom (rowNumbers r) ≡ some r
 row-forth r f =
     go (r .«parent_index»)
     ∙ ap
@@ -309,7 +308,7 @@ row-forth r f =
     (sym (f .deref))
   where
     go : (p : ParentIndex)
-        → rowFrom (places (r .update .name .0) (r .update .change) (parentPlaces p ++ (r .«leaf_referent_previous_oid» .0 ∷ [])))
+        → rowFrom (places (r .update .name .0) (r .update .change) (parentFlag p ∷ parentPlace p ∷ r .«leaf_referent_previous_oid» .0 ∷ []))
         ≡ some
         (record {
           update = record { change = r .update .change; name = r .update .name; deref = false };
@@ -335,29 +334,29 @@ module _ (name kind log force message expected wasKind was newKind new hasParent
       → (previousByte x ≡ expected) × (expectedTarget x ≡ w)
       → (targetByte n ≡ newKind) × (targetNumber n ≡ new) × FitsOption n
       → Is c kind l b x n message
-      → (parentPlaces p ≡ hasParent ∷ parent ∷ []) × FitsParent p
+      → (parentFlag p ≡ hasParent) × (parentPlace p ≡ parent) × FitsParent p
       → (r : Edit)
       → record {
         update = record { change = c; name = record { 0 = name }; deref = false };
         «parent_index» = p;
         «leaf_referent_previous_oid» = record { 0 = leaf };
       } ≡ r
-      → (rowPlaces r ≡ thirteen) × FitsRow r
+      → (rowNumbers r ≡ thirteen) × FitsRow r
   built l b w x n c p hl hb hw hx hn hc hp r e =
       rw (← e) (
-        rw (hc .kind, hc .log, hc .forced, hc .message, hc .expected, hc .value, hx .1, hl, hb, hw .0, hw .1, hx .0, hn .0, hn .1, hp .0) refl,
+        rw (hc .kind, hc .log, hc .forced, hc .message, hc .expected, hc .value, hx .1, hl, hb, hw .0, hw .1, hx .0, hn .0, hn .1, hp .0, hp .1) refl,
         record {
           name = name-fits;
           deref = refl;
           message = rw (hc .message) message-fits;
           was = rw (hc .expected, hx .1) (hw .2);
           new = rw (hc .value) (hn .2);
-          parent = hp .1;
+          parent = hp .2;
           leaf = leaf-fits;
         },
       )
 
-  pub row-back : (r : Edit) → rowFrom thirteen ≡ some r → (rowPlaces r ≡ thirteen) × FitsRow r
+  pub row-back : (r : Edit) → rowFrom thirteen ≡ some r → (rowNumbers r ≡ thirteen) × FitsRow r
   unfolding rowFrom
   row-back r e =
       some-then (refLogOption (refLogOf log)) _ r e (λ l hl e.

@@ -13,11 +13,14 @@ use mir.Val.{Fits}
 use mir.Syntax.{w64}
 use Rattle.word.specs.Be.{cut, val, be}
 use Rattle.word.specs.Cut.{put}
-use Rattle.word.specs.Fields.{fields, unfields}
+use Rattle.word.specs.Fields.{fields, unfields, puts}
 use Rattle.word.specs.Fields.Same.{none as noFields, one}
 use Rattle.word.proofs.Fields.{puts-fields}
 use Rattle.target.specs.declared.ObjectNumber.{ObjectNumber}
+use Rattle.target.specs.declared.OptionObject.{OptionObject}
+use Rattle.target.specs.declared.OptionObject.the-variants.{NoId, Id}
 use Rattle.target.specs.declared.Target.the-variants.{Object, Symbolic}
+use Rattle.target.specs.Fields.{objectOf}
 use Rattle.target.specs.declared.OptionTarget.{OptionTarget}
 use Rattle.target.specs.declared.OptionTarget.the-variants.{Absent, Present}
 use Rattle.transaction.specs.declared.RefLog.{RefLog}
@@ -31,16 +34,21 @@ use Rattle.transaction.specs.declared.Change.the-variants.{Delete}
 use Rattle.transaction.specs.declared.RefEdit.{RefEdit}
 use Rattle.transaction.specs.declared.Edit.{Edit}
 use Rattle.transaction.specs.declared.ParentIndex.{ParentIndex}
-use Rattle.transaction.specs.Fields.{refLogOf, refLogOption, previousOf, previousOption}
+use Rattle.transaction.specs.declared.LogChange.{LogChange}
+use Rattle.transaction.specs.Change.{logChange, expectedOf, previousValue, newValue}
+use Rattle.target.specs.Fields.{targetByte, targetNumber}
+use Rattle.model.specs.Numbers.{flag}
+use Rattle.transaction.specs.Fields.{changeByte, refLogByte, previousByte, refLogOf, refLogOption, previousOf, previousOption}
 use Rattle.transaction.specs.declared.ParentIndex.the-variants.{NoParent}
 use Rattle.model.specs.declared.Loose.{Loose}
 use Rattle.model.specs.declared.Loose.the-variants as loose
 use Rattle.model.specs.declared.Packed.{Packed}
 use Rattle.model.specs.declared.Packed.the-variants as packed
 use Rattle.model.specs.declared.Lock.{Lock}
+use Rattle.model.specs.declared.Line.{Line}
 use Rattle.model.specs.Store.{isId, lockByte}
 use Rattle.slots.specs.declared.OptionLock.{OptionLock}
-use Rattle.slots.specs.Values.{looseFrom, looseForm, looseKind, looseNumber, packedNumber, packedForm, lockFrom, lockIn, lockOption, lockForm, lineFrom, lineWidths}
+use Rattle.slots.specs.Values.{targetFrom, unbroken, looseFrom, looseForm, looseKind, looseNumber, packedNumber, packedForm, lockFrom, lockIn, lockOption, lockForm, lineFrom, lineForm, lineNumbers, lineWidths, packedFrom}
 use Rattle.model.specs.EditList.{_>>=_, flagOf, changeOf}
 use Rattle.slots.specs.declared.OptionOptionTarget.{OptionOptionTarget}
 use Rattle.slots.specs.declared.OptionOptionTarget.the-variants.{NoTarget}
@@ -50,13 +58,9 @@ use Rattle.slots.specs.declared.OptionParent.the-variants.{NoPlace, Plac
 use Rattle.slots.specs.declared.OptionChange.{OptionChange}
 use Rattle.slots.specs.declared.OptionChange.the-variants.{NoChange}
 use Rattle.slots.specs.declared.OptionChange.the-variants as optionChange
-use Rattle.slots.specs.Row.{targetFrom, targetIn, targetOption, expectedIn, parentFrom, parentIn, parentOption, changeIn, changeOption, rowFrom, rowIn}
+use Rattle.slots.specs.Row.{rowNumbers, rowForm, rowWidths, headWidths, tailWidths, headOf, tailOf, parentFlag, parentPlace, slotTarget, targetOption, slotExpected, parentFrom, slotParent, parentOption, slotChange, changeOption, rowFrom, rowIn}
 
 -- ---- numbers read
-
--- the part from a up to a + w is w bytes wide
-pub lent : (a w x : ℕ) (s : List ℕ) → x ≡ val (cut a (a + w - a) s) → x ≡ val (cut a w s)
-lent a w x s e = let h : a + w - a ≡ w = omega arith in e ∙ ap (λ (k : ℕ). val (cut a k s)) h
 
 pub line-in : (s : List ℕ) (x0 x1 x2 x3 x4 : ℕ) → x0 ≡ val (cut 0 2 s) → x1 ≡ val (cut 2 8 s) → x2 ≡ val (cut 10 8 s)
     → x3 ≡ val (cut 18 2 s) → x4 ≡ val (cut 20 2 s)
@@ -71,44 +75,19 @@ line-in s x0 x1 x2 x3 x4 e0 e1 e2 e3 e4 = rw (e0, e1, e2, e3, e4)
 
 -- ---- a loose value of its numbers
 
--- a number of 64 bits that is not 0 is an object's
-is-id : (x : ℕ) → Fits w64 x → (x ≡ 0 → ⊥) → isId x ≡ true
-is-id x f h =
-    let p : x < 2 ^ 64 = f .fits in
-    let q : 0 < x = omega arith in
-    rw (lt-ltb 0 x q, lt-ltb x (2 ^ 64) p)
-
 module _ (k x : ℕ) where
-  pub loose-beside-none : k ≡ 0 → (x ≡ 0 → ⊥) → none ≡ looseFrom k x
-  loose-beside-none e h = rw (e, ne-eqb x 0 h)
-
-  pub loose-none : k ≡ 0 → x ≡ 0 → some loose.None ≡ looseFrom k x
-  loose-none e h = rw (e, h)
-
-  pub loose-null : k ≡ 1 → x ≡ 0 → none ≡ looseFrom k x
-  loose-null e h = rw (e, h)
-
-  pub loose-object : k ≡ 1 → (x ≡ 0 → ⊥) → Fits w64 x → some (loose.Target (Object (record { 0 = x }))) ≡ looseFrom k x
-  loose-object e h f = rw (e, is-id x f h)
-
-  pub loose-far : k ≡ 2 → 65536 ≤ x → none ≡ looseFrom k x
-  loose-far e h = rw (e, le-leb 65536 x h)
-
-  pub loose-link : k ≡ 2 → x < 65536 → some (loose.Target (Symbolic (record { 0 = x }))) ≡ looseFrom k x
-  loose-link e h = rw (e, lt-leb 65536 x h)
-
   pub loose-beside-broken : k ≡ 3 → (x ≡ 0 → ⊥) → none ≡ looseFrom k x
   loose-beside-broken e h = rw (e, ne-eqb x 0 h)
 
   pub loose-broken : k ≡ 3 → x ≡ 0 → some loose.Broken ≡ looseFrom k x
   loose-broken e h = rw (e, h)
 
-pub loose-other : (k x : ℕ) → (k ≡ 0 → ⊥) → (k ≡ 1 → ⊥) → (k ≡ 2 → ⊥) → (k ≡ 3 → ⊥) → none ≡ looseFrom k x
-loose-other zero x a b c d = absurd (a refl)
-loose-other (suc zero) x a b c d = absurd (b refl)
-loose-other (suc (suc zero)) x a b c d = absurd (c refl)
-loose-other (suc (suc (suc zero))) x a b c d = absurd (d refl)
-loose-other (suc (suc (suc (suc k)))) x a b c d = rw (ne-eqb _ 2 c)
+  module _ (n : k ≡ 3 → ⊥) (o : OptionOptionTarget) (e : targetOption o ≡ targetFrom k x) where
+    pub loose-missing : o ≡ NoTarget → none ≡ looseFrom k x
+    loose-missing h = rw (ne-eqb k 3 n, ← e, h)
+
+    pub loose-unbroken : (t : OptionTarget) (v : Loose) → o ≡ optionTarget.Target t → v ≡ unbroken t → some v ≡ looseFrom k x
+    loose-unbroken t v h q = rw (ne-eqb k 3 n, ← e, h, q)
 
 -- ---- a target of its numbers
 
@@ -119,11 +98,21 @@ module _ (k x : ℕ) where
   pub target-none : k ≡ 0 → x ≡ 0 → some Absent ≡ targetFrom k x
   target-none e h = rw (e, h)
 
-  pub target-null : k ≡ 1 → x ≡ 0 → none ≡ targetFrom k x
-  target-null e h = rw (e, h)
+  -- o is the object of the number, unless that is the null id
+  module _ (o : OptionObject) (eo : o ≡ objectOf x) where
+    pub target-null : k ≡ 1 → o ≡ NoId → none ≡ targetFrom k x
+    target-null e h = go (eqb x 0) refl
+      where
+        go : (b : Bool) → eqb x 0 ≡ b → none ≡ targetFrom k x
+        go true p = rw (e, p)
+        go false p = absurd (let q : o ≡ Id (record { 0 = x }) = rw p at eo in let z : _≡_ {A = ℕ} 0 1 = cc in omega arith)
 
-  pub target-object : k ≡ 1 → (x ≡ 0 → ⊥) → some (Present (Object (record { 0 = x }))) ≡ targetFrom k x
-  target-object e h = rw (e, ne-eqb x 0 h)
+    pub target-object : (i : ObjectNumber) → k ≡ 1 → o ≡ Id i → some (Present (Object i)) ≡ targetFrom k x
+    target-object i e h = go (eqb x 0) refl
+      where
+        go : (b : Bool) → eqb x 0 ≡ b → some (Present (Object i)) ≡ targetFrom k x
+        go true p = absurd (let q : o ≡ NoId = rw p at eo in let z : _≡_ {A = ℕ} 0 1 = cc in omega arith)
+        go false p = let q : o ≡ Id (record { 0 = x }) = rw p at eo in rw (e, p) (let r : i ≡ record { 0 = x } = cc in rw r)
 
   pub target-far : k ≡ 2 → 65536 ≤ x → none ≡ targetFrom k x
   target-far e h = rw (e, le-leb 65536 x h)
@@ -169,24 +158,67 @@ one-field : (w x : ℕ) → be w x ≡ fields (w ∷ []) (x ∷ [])
 unfolding fields
 one-field w x = sym (append-nil (be w x))
 
-pub put-loose-is : (s b t : List ℕ) (k x : ℕ) (v : Loose) → length s ≡ 9 → k ≡ looseKind v → x ≡ looseNumber v → b ≡ be 1 k → t ≡ be 8 x
-    → put 1 8 (put 0 1 s b) t ≡ looseForm v
+pub put-loose-is : (l0 l1 l2 : List ℕ) (k x : ℕ) (v : Loose) → length l0 ≡ 9 → k ≡ looseKind v → x ≡ looseNumber v
+    → l1 ≡ put 0 1 l0 (be 1 k) → l2 ≡ put 1 8 l1 (be 8 x) → l2 ≡ looseForm v
 unfolding looseForm
-put-loose-is s b t k x v e p q f g =
-    ap₂ (λ (b t : List ℕ). put 1 8 (put 0 1 s b) t) (f ∙ ap (be 1) p) (g ∙ ap (be 8) q)
-    ∙ puts-fields (1 ∷ 8 ∷ []) (looseKind v ∷ looseNumber v ∷ []) s (one (one noFields)) e
+put-loose-is l0 l1 l2 k x v e p q f g =
+    rw (g, f, p, q) (puts-fields (1 ∷ 8 ∷ []) (looseKind v ∷ looseNumber v ∷ []) l0 (one (one noFields)) e)
 
-pub put-packed-none : (b : List ℕ) (v : Packed) → v ≡ packed.None → b ≡ be 8 0 → b ≡ packedForm v
+-- a part that is lent whole has its own length
+whole : (s b : List ℕ) (w x : ℕ) → length s ≡ w → b ≡ be (length s) x → b ≡ fields (w ∷ []) (x ∷ [])
+whole s b w x l e = e ∙ ap (λ (k : ℕ). be k x) l ∙ one-field w x
+
+pub put-packed-none : (s b : List ℕ) (v : Packed) → length s ≡ 8 → v ≡ packed.None → b ≡ be (length s) 0 → b ≡ packedForm v
 unfolding packedForm
-put-packed-none b v e f = f ∙ one-field 8 0 ∙ rw e
+put-packed-none s b v l e f = whole s b 8 0 l f ∙ rw e
 
-pub put-packed-object : (b : List ℕ) (v : Packed) (o : ObjectNumber) → v ≡ packed.Object o → b ≡ be 8 (o .0) → b ≡ packedForm v
+pub put-packed-object : (s b : List ℕ) (v : Packed) (o : ObjectNumber) → length s ≡ 8 → v ≡ packed.Object o → b ≡ be (length s) (o .0) → b ≡ packedForm v
 unfolding packedForm
-put-packed-object b v o e f = f ∙ one-field 8 (o .0) ∙ rw e
+put-packed-object s b v o l e f = whole s b 8 (o .0) l f ∙ rw e
 
-pub put-lock-is : (b : List ℕ) (x : ℕ) (v : Lock) → x ≡ lockByte v → b ≡ be 1 x → b ≡ lockForm v
+pub put-lock-is : (s b : List ℕ) (x : ℕ) (v : Lock) → length s ≡ 1 → x ≡ lockByte v → b ≡ be (length s) x → b ≡ lockForm v
 unfolding lockForm
-put-lock-is b x v e f = f ∙ one-field 1 x ∙ rw e
+put-lock-is s b x v l e f = whole s b 1 x l f ∙ rw e
+
+pub put-line-is : (l l′ : List ℕ) (v : Line) → length l ≡ 22 → l′ ≡ puts 0 lineWidths (lineNumbers v) l → l′ ≡ lineForm v
+unfolding lineForm
+put-line-is l l′ v e f = f ∙ puts-fields lineWidths (lineNumbers v) l (one (one (one (one (one noFields))))) e
+
+-- what stands for each part of a row
+pub row-is : (r : Edit) (log : LogChange) (x : PreviousValue) (was new : OptionTarget) (k l f e a b c d h j : ℕ)
+    → log ≡ logChange (r .update .change) → x ≡ expectedOf (r .update .change) → was ≡ previousValue (r .update .change) → new ≡ newValue (r .update .change)
+    → k ≡ changeByte (r .update .change) → l ≡ refLogByte (log .mode) → f ≡ flag (log .«force_create_reflog») → e ≡ previousByte x
+    → a ≡ targetByte was → b ≡ targetNumber was → c ≡ targetByte new → d ≡ targetNumber new
+    → h ≡ parentFlag (r .«parent_index») → j ≡ parentPlace (r .«parent_index»)
+    → r .update .name .0 ∷ k ∷ l ∷ f ∷ log .message ∷ e ∷ a ∷ b ∷ c ∷ d ∷ h ∷ j ∷ r .«leaf_referent_previous_oid» .0 ∷ [] ≡ rowNumbers r
+row-is r log x was new k l f e a b c d h j elog ex ewas enew ek el ef ee ea eb ec ed eh ej =
+    simp (ek, el, ef, ee, ea, eb, ec, ed, eh, ej, elog, ex, ewas, enew)
+
+-- a row's numbers: the head's, and then the tail's
+pub put-row-is : (l p h t : List ℕ) (v : Edit) → length l ≡ 36 → p ≡ rowNumbers v → h ≡ puts 0 headWidths (headOf p) l
+    → t ≡ puts 8 tailWidths (tailOf p) h → t ≡ rowForm v
+unfolding rowForm
+put-row-is l p h t v e ep eh et =
+    et
+    ∙ ap (puts 8 tailWidths (tailOf p)) eh
+    ∙ ap (λ (p : List ℕ). puts 8 tailWidths (tailOf p) (puts 0 headWidths (headOf p) l)) ep
+    ∙ puts-fields rowWidths (rowNumbers v) l (one (one (one (one (one (one (one (one (one (one (one (one (one noFields))))))))))))) e
+
+-- ---- a packed value of its number
+
+pub packed-absent : (s : List ℕ) (x : ℕ) (o : OptionObject) → x ≡ val s → o ≡ objectOf x → o ≡ NoId → packed.None ≡ packedFrom (val s)
+packed-absent s x o e eo h = rw (← e) (go (eqb x 0) refl)
+  where
+    go : (b : Bool) → eqb x 0 ≡ b → packed.None ≡ packedFrom x
+    go true p = rw p
+    go false p = absurd (let q : o ≡ Id (record { 0 = x }) = rw p at eo in let z : _≡_ {A = ℕ} 0 1 = cc in omega arith)
+
+pub packed-present : (s : List ℕ) (x : ℕ) (o : OptionObject) (i : ObjectNumber) → x ≡ val s → o ≡ objectOf x → o ≡ Id i → packed.Object i ≡ packedFrom (val s)
+packed-present s x o i e eo h = rw (← e) (go (eqb x 0) refl)
+  where
+    go : (b : Bool) → eqb x 0 ≡ b → packed.Object i ≡ packedFrom x
+    go true p = absurd (let q : o ≡ NoId = rw p at eo in let z : _≡_ {A = ℕ} 0 1 = cc in omega arith)
+    go false p = let q : o ≡ Id (record { 0 = x }) = rw p at eo in rw p (let r : i ≡ record { 0 = x } = cc in rw r)
 
 -- ---- a change of its parts
 
@@ -260,7 +292,7 @@ chain (some l) (some b) (some w) x n c k = later (x w) n (c l b) k
 -- what follows the change
 abbrev rest : List ℕ → Change → Option Edit
 rest s c = do
-  p ← parentIn s
+  p ← slotParent s
   some
       (record {
         update = record { change = c; name = record { 0 = val (cut 0 2 s) }; deref = false };
@@ -269,61 +301,61 @@ rest s c = do
       })
 
 -- a row is its change, and then its parent
-row-parts : (s : List ℕ) → rowIn s ≡ (changeIn s >>= rest s)
-unfolding rowIn rowFrom changeIn expectedIn targetIn parentIn
+row-parts : (s : List ℕ) → rowIn s ≡ (slotChange s >>= rest s)
+unfolding rowIn rowFrom slotChange slotExpected slotTarget slotParent
 row-parts s =
     chain (refLogOption (refLogOf (val (cut 3 1 s)))) (flagOf (val (cut 4 1 s))) (targetFrom (val (cut 8 1 s)) (val (cut 9 8 s)))
     (λ w. previousOption (previousOf (val (cut 7 1 s)) w)) (targetFrom (val (cut 17 1 s)) (val (cut 18 8 s)))
     (λ l b x n. changeOf (val (cut 2 1 s)) l b x n (val (cut 5 2 s))) (rest s)
 
 pub target-in : (s : List ℕ) (a k x : ℕ) (o : OptionOptionTarget) → k ≡ val (cut a 1 s) → x ≡ val (cut (a + 1) 8 s)
-    → targetOption o ≡ targetFrom k x → targetOption o ≡ targetIn a s
-unfolding targetIn
+    → targetOption o ≡ targetFrom k x → targetOption o ≡ slotTarget a s
+unfolding slotTarget
 target-in s a k x o e f h = h ∙ ap₂ targetFrom e f
 
-pub no-expected : (s : List ℕ) (o : OptionOptionTarget) → targetOption o ≡ targetIn 8 s → o ≡ NoTarget → none ≡ expectedIn s
-unfolding expectedIn
+pub no-expected : (s : List ℕ) (o : OptionOptionTarget) → targetOption o ≡ slotTarget 8 s → o ≡ NoTarget → none ≡ slotExpected s
+unfolding slotExpected
 no-expected s o e h = rw (← e, h)
 
 pub expected-in : (s : List ℕ) (o : OptionOptionTarget) (was : OptionTarget) (k : ℕ) (p : OptionPrevious)
-    → targetOption o ≡ targetIn 8 s → o ≡ optionTarget.Target was → k ≡ val (cut 7 1 s) → p ≡ previousOf k was → previousOption p ≡ expectedIn s
-unfolding expectedIn
+    → targetOption o ≡ slotTarget 8 s → o ≡ optionTarget.Target was → k ≡ val (cut 7 1 s) → p ≡ previousOf k was → previousOption p ≡ slotExpected s
+unfolding slotExpected
 expected-in s o was k p e h f g = rw (← e, h, ← f, ← g)
 
 -- `o` is the answer of each call in turn
 module _ (s : List ℕ) (k : ℕ) (o : OptionRefLog) (ek : k ≡ val (cut 3 1 s)) (e : o ≡ refLogOf k) where
-  pub no-log : o ≡ refLog.NoRefLog → none ≡ changeIn s
-  unfolding changeIn
+  pub no-log : o ≡ refLog.NoRefLog → none ≡ slotChange s
+  unfolding slotChange
   no-log h = rw (← ek, ← e, h)
 
   module _ (log : RefLog) (h : o ≡ refLog.RefLog log) (force : ℕ) (ef : force ≡ val (cut 4 1 s)) where
-    pub no-force : 1 < force → none ≡ changeIn s
-    unfolding changeIn
+    pub no-force : 1 < force → none ≡ slotChange s
+    unfolding slotChange
     no-force f = rw (← ek, ← e, h, ← ef, flag-past force f)
 
-    module _ (f : force ≤ 1) (o2 : OptionPrevious) (e2 : previousOption o2 ≡ expectedIn s) where
-      pub no-previous : o2 ≡ NoPrevious → none ≡ changeIn s
-      unfolding changeIn
+    module _ (f : force ≤ 1) (o2 : OptionPrevious) (e2 : previousOption o2 ≡ slotExpected s) where
+      pub no-previous : o2 ≡ NoPrevious → none ≡ slotChange s
+      unfolding slotChange
       no-previous h2 = rw (← ek, ← e, h, ← ef, flag-is force f, ← e2, h2)
 
       module _ (expected : PreviousValue) (h2 : o2 ≡ Previous expected) (o3 : OptionOptionTarget)
-          (e3 : targetOption o3 ≡ targetIn 17 s) where
-        pub no-new : o3 ≡ NoTarget → none ≡ changeIn s
-        unfolding changeIn
+          (e3 : targetOption o3 ≡ slotTarget 17 s) where
+        pub no-new : o3 ≡ NoTarget → none ≡ slotChange s
+        unfolding slotChange
         no-new h3 = rw (← ek, ← e, h, ← ef, flag-is force f, ← e2, h2, ← e3, h3)
 
         pub change-in : (new : OptionTarget) (kind message : ℕ) (c : OptionChange) → o3 ≡ optionTarget.Target new
             → kind ≡ val (cut 2 1 s) → message ≡ val (cut 5 2 s)
-            → changeOption c ≡ changeOf kind log (eqb force 1) expected new message → changeOption c ≡ changeIn s
-        unfolding changeIn
+            → changeOption c ≡ changeOf kind log (eqb force 1) expected new message → changeOption c ≡ slotChange s
+        unfolding slotChange
         change-in new kind message c h3 e4 e5 e6 =
             rw (← ek, ← e, h, ← ef, flag-is force f, ← e2, h2, ← e3, h3, ← e4, ← e5) e6
 
-module _ (s : List ℕ) (o : OptionChange) (e : changeOption o ≡ changeIn s) where
+module _ (s : List ℕ) (o : OptionChange) (e : changeOption o ≡ slotChange s) where
   pub row-no-change : o ≡ NoChange → none ≡ rowIn s
   row-no-change h = rw (row-parts s, ← e, h)
 
-  module _ (change : Change) (h : o ≡ optionChange.Change change) (o2 : OptionParent) (e2 : parentOption o2 ≡ parentIn s) where
+  module _ (change : Change) (h : o ≡ optionChange.Change change) (o2 : OptionParent) (e2 : parentOption o2 ≡ slotParent s) where
     pub row-no-parent : o2 ≡ NoPlace → none ≡ rowIn s
     row-no-parent h2 = rw (row-parts s, ← e, h, ← e2, h2)
 

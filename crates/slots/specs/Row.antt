@@ -1,20 +1,21 @@
--- The form of a row in a slot of 36 bytes: the numbers that reading a row answers, in that order.
+-- The form of a row in a slot of 36 bytes: its own list of numbers, each at its place.
 use mathlib.Core.Path.{_≡_}
-use mathlib.Core.Bool.{Bool, true, false, _&&_, cond}
-use mathlib.Core.List.{List, [], _∷_}
+use mathlib.Core.Bool.{false, cond}
+use mathlib.Core.List.{List, [], _∷_, _++_}
 use mathlib.Core.Option.{Option, none, some}
 use Prim.Native.Nat.{ℕ, zero, suc, _+_, _^_, _<_}
 use lib.ListN.{getD}
-use lib.Dec.{eqb, leb}
+use lib.Dec.{eqb}
 use Rattle.word.specs.Be.{cut, val}
 use Rattle.word.specs.Fields.{fields, unfields}
+use Rattle.target.specs.Fields.{targetByte, targetNumber}
 use Rattle.target.specs.declared.OptionTarget.{OptionTarget}
 use Rattle.target.specs.declared.OptionTarget.the-variants.{Absent, Present}
 use Rattle.transaction.specs.declared.ParentIndex.{ParentIndex}
 use Rattle.transaction.specs.declared.ParentIndex.the-variants.{NoParent, Parent}
 use Rattle.transaction.specs.declared.Edit.{Edit}
-use Rattle.transaction.specs.Change.{newValue, previousValue, messageOf}
-use Rattle.transaction.specs.Fields.{refLogOf, refLogOption, previousOf, previousOption}
+use Rattle.transaction.specs.Change.{newValue, previousValue, expectedOf, logOf, forceOf, messageOf}
+use Rattle.transaction.specs.Fields.{changeByte, refLogByte, previousByte, refLogOf, refLogOption, previousOf, previousOption}
 use Rattle.transaction.specs.declared.PreviousValue.{PreviousValue}
 use Rattle.transaction.specs.declared.Change.{Change}
 use Rattle.slots.specs.declared.OptionOptionTarget.{OptionOptionTarget}
@@ -27,20 +28,55 @@ use Rattle.slots.specs.declared.OptionChange.the-variants.{NoChange}
 use Rattle.slots.specs.declared.OptionChange.the-variants as optionChange
 use Rattle.slots.specs.declared.OptionRow.{OptionRow}
 use Rattle.slots.specs.declared.OptionRow.the-variants.{NoRow, Row}
-use Rattle.model.specs.EditList.{_>>=_, flagOf, targetOf, changeOf}
-use Rattle.model.specs.Numbers.{rowPlaces}
-use Rattle.slots.specs.Values.{FitsTarget}
+use Rattle.model.specs.EditList.{_>>=_, flagOf, changeOf}
+use Rattle.model.specs.Numbers.{flag}
+use Rattle.slots.specs.Values.{targetFrom, FitsTarget}
 
 -- name, kind, log, force, message, expected, expected target, new target, has a parent, parent's place, leaf-previous
+abbrev pub headWidths : List ℕ
+headWidths = 2 ∷ 1 ∷ 1 ∷ 1 ∷ 2 ∷ 1 ∷ []
+
+abbrev pub tailWidths : List ℕ
+tailWidths = 1 ∷ 8 ∷ 1 ∷ 8 ∷ 1 ∷ 1 ∷ 8 ∷ []
+
+-- the numbers that go with each
+abbrev pub headOf : List ℕ → List ℕ
+headOf p = getD p 0 0 ∷ getD p 1 0 ∷ getD p 2 0 ∷ getD p 3 0 ∷ getD p 4 0 ∷ getD p 5 0 ∷ []
+
+abbrev pub tailOf : List ℕ → List ℕ
+tailOf p = getD p 6 0 ∷ getD p 7 0 ∷ getD p 8 0 ∷ getD p 9 0 ∷ getD p 10 0 ∷ getD p 11 0 ∷ getD p 12 0 ∷ []
+
 abbrev pub rowWidths : List ℕ
-rowWidths = 2 ∷ 1 ∷ 1 ∷ 1 ∷ 2 ∷ 1 ∷ 1 ∷ 8 ∷ 1 ∷ 8 ∷ 1 ∷ 1 ∷ 8 ∷ []
+rowWidths = headWidths ++ tailWidths
+
+-- whether there is a parent, and its place
+abbrev pub parentFlag : ParentIndex → ℕ
+parentFlag NoParent = 0
+parentFlag (Parent j) = 1
+
+abbrev pub parentPlace : ParentIndex → ℕ
+parentPlace NoParent = 0
+parentPlace (Parent j) = j
+
+abbrev pub rowNumbers : Edit → List ℕ
+rowNumbers r =
+    r .update .name .0
+    ∷ changeByte (r .update .change)
+    ∷ refLogByte (logOf (r .update .change))
+    ∷ flag (forceOf (r .update .change))
+    ∷ messageOf (r .update .change)
+    ∷ previousByte (expectedOf (r .update .change))
+    ∷ targetByte (previousValue (r .update .change))
+    ∷ targetNumber (previousValue (r .update .change))
+    ∷ targetByte (newValue (r .update .change))
+    ∷ targetNumber (newValue (r .update .change))
+    ∷ parentFlag (r .«parent_index»)
+    ∷ parentPlace (r .«parent_index»)
+    ∷ r .«leaf_referent_previous_oid» .0
+    ∷ []
 
 unfoldable pub rowForm : Edit → List ℕ
-rowForm r = fields rowWidths (rowPlaces r)
-
--- a link's number has 16 bits
-abbrev pub targetFrom : ℕ → ℕ → Option OptionTarget
-targetFrom kind x = cond (eqb kind 2 && leb (2 ^ 16) x) none (targetOf kind x)
+rowForm r = fields rowWidths (rowNumbers r)
 
 -- no parent has place 0 beside it
 abbrev pub parentFrom : ℕ → ℕ → Option ParentIndex
@@ -71,24 +107,24 @@ rowIn r = rowFrom (unfields 0 rowWidths r)
 -- ---- the parts of a row in its slot
 
 -- the target of the nine bytes from the a-th on
-unfoldable pub targetIn : ℕ → List ℕ → Option OptionTarget
-targetIn a r = targetFrom (val (cut a 1 r)) (val (cut (a + 1) 8 r))
+unfoldable pub slotTarget : ℕ → List ℕ → Option OptionTarget
+slotTarget a r = targetFrom (val (cut a 1 r)) (val (cut (a + 1) 8 r))
 
-unfoldable pub expectedIn : List ℕ → Option PreviousValue
-expectedIn r = do
-  was ← targetIn 8 r
+unfoldable pub slotExpected : List ℕ → Option PreviousValue
+slotExpected r = do
+  was ← slotTarget 8 r
   previousOption (previousOf (val (cut 7 1 r)) was)
 
-unfoldable pub changeIn : List ℕ → Option Change
-changeIn r = do
+unfoldable pub slotChange : List ℕ → Option Change
+slotChange r = do
   log ← refLogOption (refLogOf (val (cut 3 1 r)))
   force ← flagOf (val (cut 4 1 r))
-  expected ← expectedIn r
-  new ← targetIn 17 r
+  expected ← slotExpected r
+  new ← slotTarget 17 r
   changeOf (val (cut 2 1 r)) log force expected new (val (cut 5 2 r))
 
-unfoldable pub parentIn : List ℕ → Option ParentIndex
-parentIn r = parentFrom (val (cut 26 1 r)) (val (cut 27 1 r))
+unfoldable pub slotParent : List ℕ → Option ParentIndex
+slotParent r = parentFrom (val (cut 26 1 r)) (val (cut 27 1 r))
 
 -- ---- the code's own forms of what may be missing
 

@@ -10,6 +10,8 @@ use Rattle.word.specs.Be.{cut, val}
 use Rattle.word.specs.Fields.{fields, unfields}
 use Rattle.target.specs.declared.Target.{Target}
 use Rattle.target.specs.declared.Target.the-variants.{Object, Symbolic}
+use Rattle.target.specs.declared.OptionTarget.{OptionTarget}
+use Rattle.target.specs.declared.OptionTarget.the-variants.{Absent, Present}
 use Rattle.model.specs.declared.Loose.{Loose}
 use Rattle.model.specs.declared.Loose.the-variants as loose
 use Rattle.model.specs.declared.Packed.{Packed}
@@ -24,7 +26,7 @@ use Rattle.slots.specs.declared.OptionLock.{OptionLock}
 use Rattle.slots.specs.declared.OptionLock.the-variants.{NoLock}
 use Rattle.slots.specs.declared.OptionLock.the-variants as optionLock
 use Rattle.model.specs.Store.{lockByte}
-use Rattle.model.specs.Load.{looseOf}
+use Rattle.model.specs.EditList.{_>>=_, targetOf}
 
 -- ---- a loose value: kind (0 none, 1 object, 2 link, 3 broken) and number, 1 + 8 bytes
 
@@ -46,9 +48,17 @@ looseNumber loose.Broken = 0
 unfoldable pub looseForm : Loose → List ℕ
 looseForm v = fields looseWidths (looseKind v ∷ looseNumber v ∷ [])
 
--- a link's number has 16 bits
+-- a target is read as one of the edit list is, but that a link's number has 16 bits
+abbrev pub targetFrom : ℕ → ℕ → Option OptionTarget
+targetFrom kind x = cond (eqb kind 2 && leb (2 ^ 16) x) none (targetOf kind x)
+
+abbrev pub unbroken : OptionTarget → Loose
+unbroken Absent = loose.None
+unbroken (Present t) = loose.Target t
+
+-- 3 is broken, with number 0 beside it; else none or a target
 abbrev pub looseFrom : ℕ → ℕ → Option Loose
-looseFrom kind x = cond (eqb kind 2 && leb (2 ^ 16) x) none (looseOf kind x)
+looseFrom kind x = cond (eqb kind 3) (cond (eqb x 0) (some loose.Broken) none) (targetFrom kind x >>= λ t. some (unbroken t))
 
 unfoldable pub looseIn : List ℕ → Option Loose
 looseIn r = looseFrom (val (cut 0 1 r)) (val (cut 1 8 r))

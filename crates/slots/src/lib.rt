@@ -3,20 +3,22 @@
 ghost use mathlib.Core.Path.{_≡_};
 ghost use Prim.Native.Nat.{_+_, _≤_};
 ghost use lib.ListN.{length};
-ghost use Rattle.word.specs.Be.{cut, val};
-ghost use Rattle.word.specs.Fields.{unfields};
-ghost use Rattle.slots.specs.Values.{looseForm, looseKind, looseNumber, looseFrom, looseIn, packedForm, packedFrom, lockForm, lockFrom, lockIn, lineFrom, lineWidths};
+ghost use Rattle.word.specs.Be.{val};
+ghost use Rattle.word.specs.Fields.{unfields, puts};
+ghost use Rattle.slots.specs.Values.{looseForm, looseKind, looseNumber, targetFrom, unbroken, looseFrom, looseIn, looseOption};
+ghost use Rattle.slots.specs.Values.{packedForm, packedFrom, lockForm, lockFrom, lockIn, lockOption, lineFrom, lineForm, lineWidths};
 ghost use Rattle.model.specs.Store.{lockByte};
 ghost use Rattle.model.specs.EditList.{changeOf};
-ghost use Rattle.slots.specs.Values.{looseOption, lockOption};
+ghost use Rattle.model.specs.Numbers.{flag};
 ghost use Rattle.transaction.specs.Fields.{previousOption};
-ghost use Rattle.slots.specs.Row.{rowIn, rowOption, targetFrom, targetIn, targetOption, expectedIn, parentFrom, parentIn, parentOption, changeIn, changeOption};
+ghost use Rattle.slots.specs.Row.{rowIn, rowOption, rowForm, rowNumbers, headWidths, tailWidths, headOf, tailOf, parentFlag, parentPlace, slotTarget, targetOption, slotExpected, parentFrom, slotParent, parentOption, slotChange, changeOption};
 use model::Line;
 use model::Lock;
 use model::Loose;
 use model::Packed;
 use target::NameNumber;
 use target::ObjectNumber;
+use target::OptionObject;
 use target::OptionTarget;
 use target::Target;
 use transaction::Change;
@@ -28,24 +30,6 @@ use transaction::ParentIndex;
 use transaction::PreviousValue;
 use transaction::RefEdit;
 use transaction::RefLog;
-
-// ---- a number in a slot
-
-// The number that stands at a place, `width` bytes wide.
-fn number_at(slot: &[u8], at: usize, width: usize) -> u64
-    requires { ⌜ (at + width ≤ length (now slot)) × (width ≤ 8) ⌝ }
-    ensures { λ r. ⌜ r ≡ val (cut at width (now (slot .entry))) ⌝ }
-{
-    word::get(&slot[at..at + width])
-}
-
-// The same of two bytes, as a number of 16 bits.
-fn short_at(slot: &[u8], at: usize) -> u16
-    requires { ⌜ at + 2 ≤ length (now slot) ⌝ }
-    ensures { λ r. ⌜ r ≡ val (cut at 2 (now (slot .entry))) ⌝ }
-{
-    word::get16(&slot[at..at + 2])
-}
 
 // ---- a loose value: a kind and a number
 
@@ -65,57 +49,50 @@ impl OptionLoose {
     pub const BROKEN: u64 = 3;
 }
 
+// What is not broken is none or a target.
+fn unbroken_of(value: OptionTarget) -> Loose
+    ensures { λ r. ⌜ r ≡ unbroken value ⌝ }
+{
+    match value {
+        OptionTarget::Absent => Loose::None,
+        OptionTarget::Present(t) => Loose::Target(t),
+    }
+}
+
 pub fn loose_from(kind: u64, number: u64) -> OptionLoose
     ensures { λ r. ⌜ looseOption r ≡ looseFrom kind number ⌝ }
 {
-    match kind {
-        OptionLoose::NONE => {
-            if number != 0 {
-                return OptionLoose::NoLoose;
-            }
-            OptionLoose::Loose(Loose::None)
+    if kind == OptionLoose::BROKEN {
+        if number != 0 {
+            return OptionLoose::NoLoose;
         }
-        OptionLoose::OBJECT => {
-            if number == ObjectNumber::NULL {
-                return OptionLoose::NoLoose;
-            }
-            OptionLoose::Loose(Loose::Target(Target::Object(ObjectNumber(number))))
-        }
-        OptionLoose::LINK => {
-            if number >= 65536 {
-                return OptionLoose::NoLoose;
-            }
-            OptionLoose::Loose(Loose::Target(Target::Symbolic(NameNumber(number as u16))))
-        }
-        OptionLoose::BROKEN => {
-            if number != 0 {
-                return OptionLoose::NoLoose;
-            }
-            OptionLoose::Loose(Loose::Broken)
-        }
-        _ => OptionLoose::NoLoose,
+        return OptionLoose::Loose(Loose::Broken);
     }
+    let OptionOptionTarget::Target(value) = target_from(kind, number) else {
+        return OptionLoose::NoLoose;
+    };
+    OptionLoose::Loose(unbroken_of(value))
 }
 
 pub fn get_loose(slot: &[u8]) -> OptionLoose
     requires { ⌜ length (now slot) ≡ 9 ⌝ }
     ensures { λ r. ⌜ looseOption r ≡ looseIn (now (slot .entry)) ⌝ }
 {
-    let kind = number_at(slot, 0, 1);
-    let number = number_at(slot, 1, 8);
+    let kind = word::get_at(slot, 0, 1);
+    let number = word::get_at(slot, 1, 8);
     loose_from(kind, number)
 }
 
-pub fn loose_kind(v: Loose) -> u8
+pub fn loose_kind(v: Loose) -> u64
     ensures { λ r. ⌜ r ≡ looseKind v ⌝ }
 {
     match v {
-        Loose::None => 0,
+        Loose::None => OptionLoose::NONE,
         Loose::Target(t) => match t {
-            Target::Object(_) => 1,
-            Target::Symbolic(_) => 2,
+            Target::Object(_) => OptionLoose::OBJECT,
+            Target::Symbolic(_) => OptionLoose::LINK,
         },
-        Loose::Broken => 3,
+        Loose::Broken => OptionLoose::BROKEN,
     }
 }
 
@@ -138,8 +115,8 @@ pub fn put_loose(slot: &mut [u8], v: Loose)
 {
     let kind = loose_kind(v);
     let number = loose_number(v);
-    word::put8(&mut slot[0..1], kind);
-    word::put64(&mut slot[1..9], number);
+    word::put_at(slot, 0, 1, kind);
+    word::put_at(slot, 1, 8, number);
 }
 
 // ---- a packed value: its object's number, 0 for none
@@ -148,12 +125,10 @@ pub fn get_packed(slot: &[u8]) -> Packed
     requires { ⌜ length (now slot) ≡ 8 ⌝ }
     ensures { λ r. ⌜ r ≡ packedFrom (val (now (slot .entry))) ⌝ }
 {
-    let number = word::get(slot);
-    if number == ObjectNumber::NULL {
-        Packed::None
-    } else {
-        Packed::Object(ObjectNumber(number))
-    }
+    let OptionObject::Id(oid) = ObjectNumber::new(word::get(slot)) else {
+        return Packed::None;
+    };
+    Packed::Object(oid)
 }
 
 pub fn put_packed(slot: &mut [u8], v: Packed)
@@ -161,8 +136,8 @@ pub fn put_packed(slot: &mut [u8], v: Packed)
     ensures { λ _. ⌜ now (slot .exit) ≡ packedForm v ⌝ }
 {
     match v {
-        Packed::None => word::put64(slot, ObjectNumber::NULL),
-        Packed::Object(oid) => word::put64(slot, oid.0),
+        Packed::None => word::put(slot, ObjectNumber::NULL),
+        Packed::Object(oid) => word::put(slot, oid.0),
     }
 }
 
@@ -199,13 +174,13 @@ pub fn get_lock(slot: &[u8]) -> OptionLock
     lock_from(word::get(slot))
 }
 
-pub fn lock_byte(v: Lock) -> u8
+pub fn lock_byte(v: Lock) -> u64
     ensures { λ r. ⌜ r ≡ lockByte v ⌝ }
 {
     match v {
-        Lock::Free => 0,
-        Lock::Foreign => 1,
-        Lock::Ours => 2,
+        Lock::Free => OptionLock::FREE,
+        Lock::Foreign => OptionLock::FOREIGN,
+        Lock::Ours => OptionLock::OURS,
     }
 }
 
@@ -214,7 +189,7 @@ pub fn put_lock(slot: &mut [u8], v: Lock)
     ensures { λ _. ⌜ now (slot .exit) ≡ lockForm v ⌝ }
 {
     let byte = lock_byte(v);
-    word::put8(slot, byte);
+    word::put(slot, byte);
 }
 
 // ---- a log line
@@ -223,11 +198,11 @@ pub fn get_line(slot: &[u8]) -> Line
     requires { ⌜ length (now slot) ≡ 22 ⌝ }
     ensures { λ r. ⌜ r ≡ lineFrom (unfields 0 lineWidths (now (slot .entry))) ⌝ }
 {
-    let name = short_at(slot, 0);
-    let previous = number_at(slot, 2, 8);
-    let new = number_at(slot, 10, 8);
-    let committer = short_at(slot, 18);
-    let message = short_at(slot, 20);
+    let name = word::get16_at(slot, 0);
+    let previous = word::get_at(slot, 2, 8);
+    let new = word::get_at(slot, 10, 8);
+    let committer = word::get16_at(slot, 18);
+    let message = word::get16_at(slot, 20);
     Line {
         name: NameNumber(name),
         previous: ObjectNumber(previous),
@@ -235,6 +210,20 @@ pub fn get_line(slot: &[u8]) -> Line
         committer: committer,
         message: message,
     }
+}
+
+pub fn put_line(slot: &mut [u8], line: Line)
+    requires { ⌜ length (now slot) ≡ 22 ⌝ }
+    ensures { λ _. ⌜ now (slot .exit) ≡ lineForm line ⌝ }
+{
+    let name = line.name;
+    let previous = line.previous;
+    let new = line.new;
+    word::put_at(slot, 0, 2, name.0 as u64);
+    word::put_at(slot, 2, 8, previous.0);
+    word::put_at(slot, 10, 8, new.0);
+    word::put_at(slot, 18, 2, line.committer as u64);
+    word::put_at(slot, 20, 2, line.message as u64);
 }
 
 // ---- a row: thirteen numbers, each at its place in the slot
@@ -270,10 +259,10 @@ pub fn target_from(kind: u64, number: u64) -> OptionOptionTarget
             OptionOptionTarget::Target(OptionTarget::Absent)
         }
         OptionTarget::OBJECT => {
-            if number == ObjectNumber::NULL {
+            let OptionObject::Id(oid) = ObjectNumber::new(number) else {
                 return OptionOptionTarget::NoTarget;
-            }
-            OptionOptionTarget::Target(OptionTarget::Present(Target::Object(ObjectNumber(number))))
+            };
+            OptionOptionTarget::Target(OptionTarget::Present(Target::Object(oid)))
         }
         OptionTarget::SYMBOLIC => {
             if number >= 65536 {
@@ -347,32 +336,32 @@ pub fn change_from(
 // A target of nine bytes: its kind and its number.
 fn get_target(slot: &[u8], at: usize) -> OptionOptionTarget
     requires { ⌜ at + 9 ≤ length (now slot) ⌝ }
-    ensures { λ r. ⌜ targetOption r ≡ targetIn at (now (slot .entry)) ⌝ }
+    ensures { λ r. ⌜ targetOption r ≡ slotTarget at (now (slot .entry)) ⌝ }
 {
-    let kind = number_at(slot, at, 1);
-    let number = number_at(slot, at + 1, 8);
+    let kind = word::get_at(slot, at, 1);
+    let number = word::get_at(slot, at + 1, 8);
     target_from(kind, number)
 }
 
 // What the edit expects, with the target that it expects.
 fn get_expected(slot: &[u8]) -> OptionPrevious
     requires { ⌜ length (now slot) ≡ 36 ⌝ }
-    ensures { λ r. ⌜ previousOption r ≡ expectedIn (now (slot .entry)) ⌝ }
+    ensures { λ r. ⌜ previousOption r ≡ slotExpected (now (slot .entry)) ⌝ }
 {
     let OptionOptionTarget::Target(was) = get_target(slot, 8) else {
         return OptionPrevious::NoPrevious;
     };
-    PreviousValue::new(number_at(slot, 7, 1), was)
+    PreviousValue::new(word::get_at(slot, 7, 1), was)
 }
 
 fn get_change(slot: &[u8]) -> OptionChange
     requires { ⌜ length (now slot) ≡ 36 ⌝ }
-    ensures { λ r. ⌜ changeOption r ≡ changeIn (now (slot .entry)) ⌝ }
+    ensures { λ r. ⌜ changeOption r ≡ slotChange (now (slot .entry)) ⌝ }
 {
-    let OptionRefLog::RefLog(log) = RefLog::new(number_at(slot, 3, 1)) else {
+    let OptionRefLog::RefLog(log) = RefLog::new(word::get_at(slot, 3, 1)) else {
         return OptionChange::NoChange;
     };
-    let force = number_at(slot, 4, 1);
+    let force = word::get_at(slot, 4, 1);
     if force > 1 {
         return OptionChange::NoChange;
     }
@@ -382,17 +371,17 @@ fn get_change(slot: &[u8]) -> OptionChange
     let OptionOptionTarget::Target(new) = get_target(slot, 17) else {
         return OptionChange::NoChange;
     };
-    let kind = number_at(slot, 2, 1);
-    let message = short_at(slot, 5);
+    let kind = word::get_at(slot, 2, 1);
+    let message = word::get16_at(slot, 5);
     change_from(kind, log, force == 1, expected, new, message)
 }
 
 fn get_parent(slot: &[u8]) -> OptionParent
     requires { ⌜ length (now slot) ≡ 36 ⌝ }
-    ensures { λ r. ⌜ parentOption r ≡ parentIn (now (slot .entry)) ⌝ }
+    ensures { λ r. ⌜ parentOption r ≡ slotParent (now (slot .entry)) ⌝ }
 {
-    let has = number_at(slot, 26, 1);
-    let place = number_at(slot, 27, 1);
+    let has = word::get_at(slot, 26, 1);
+    let place = word::get_at(slot, 27, 1);
     parent_from(has, place)
 }
 
@@ -407,11 +396,101 @@ pub fn get_row(slot: &[u8]) -> OptionRow
     let OptionParent::Place(parent) = get_parent(slot) else {
         return OptionRow::NoRow;
     };
-    let name = short_at(slot, 0);
-    let leaf = number_at(slot, 28, 8);
+    let name = word::get16_at(slot, 0);
+    let leaf = word::get_at(slot, 28, 8);
     OptionRow::Row(Edit {
         update: RefEdit::new(change, NameNumber(name), false),
         parent_index: parent,
         leaf_referent_previous_oid: ObjectNumber(leaf),
     })
+}
+
+fn flag_of(b: bool) -> u64
+    ensures { λ r. ⌜ r ≡ flag b ⌝ }
+{
+    if b { 1 } else { 0 }
+}
+
+fn parent_flag(p: ParentIndex) -> u64
+    ensures { λ r. ⌜ r ≡ parentFlag p ⌝ }
+{
+    match p {
+        ParentIndex::NoParent => 0,
+        ParentIndex::Parent(_) => 1,
+    }
+}
+
+fn parent_place(p: ParentIndex) -> u64
+    ensures { λ r. ⌜ r ≡ parentPlace p ⌝ }
+{
+    match p {
+        ParentIndex::NoParent => 0,
+        ParentIndex::Parent(j) => j as u64,
+    }
+}
+
+// The numbers of a row, in the order of its slot.
+pub fn row_numbers(row: Edit) -> [u64; 13]
+    ensures { λ r. ⌜ r ≡ rowNumbers row ⌝ }
+{
+    let update = row.update;
+    let name = update.name;
+    let change = update.change;
+    let parent = row.parent_index;
+    let leaf = row.leaf_referent_previous_oid;
+    let log = change.log();
+    let mode = log.mode;
+    let expected = change.expected();
+    let was = change.previous_value();
+    let new = change.new_value();
+    [
+        name.0 as u64,
+        change.byte(),
+        mode.byte(),
+        flag_of(log.force_create_reflog),
+        log.message as u64,
+        expected.byte(),
+        was.byte(),
+        was.number(),
+        new.byte(),
+        new.number(),
+        parent_flag(parent),
+        parent_place(parent),
+        leaf.0,
+    ]
+}
+
+// Name, kind, log, force, message and expected; then both targets, the parent and the leaf-previous.
+fn put_head(slot: &mut [u8], p: [u64; 13])
+    requires { ⌜ length (now slot) ≡ 36 ⌝ }
+    ensures { λ _. ⌜ now (slot .exit) ≡ puts 0 headWidths (headOf p) (now (slot .entry)) ⌝ }
+{
+    word::put_at(slot, 0, 2, p[0]);
+    word::put_at(slot, 2, 1, p[1]);
+    word::put_at(slot, 3, 1, p[2]);
+    word::put_at(slot, 4, 1, p[3]);
+    word::put_at(slot, 5, 2, p[4]);
+    word::put_at(slot, 7, 1, p[5]);
+}
+
+fn put_tail(slot: &mut [u8], p: [u64; 13])
+    requires { ⌜ length (now slot) ≡ 36 ⌝ }
+    ensures { λ _. ⌜ now (slot .exit) ≡ puts 8 tailWidths (tailOf p) (now (slot .entry)) ⌝ }
+{
+    word::put_at(slot, 8, 1, p[6]);
+    word::put_at(slot, 9, 8, p[7]);
+    word::put_at(slot, 17, 1, p[8]);
+    word::put_at(slot, 18, 8, p[9]);
+    word::put_at(slot, 26, 1, p[10]);
+    word::put_at(slot, 27, 1, p[11]);
+    word::put_at(slot, 28, 8, p[12]);
+}
+
+pub fn put_row(slot: &mut [u8], row: Edit)
+    requires { ⌜ length (now slot) ≡ 36 ⌝ }
+    ensures { λ _. ⌜ now (slot .exit) ≡ rowForm row ⌝ }
+{
+    let p = row_numbers(row);
+    put_head(slot, p);
+    put_tail(slot, p);
 }

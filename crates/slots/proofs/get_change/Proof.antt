@@ -3,8 +3,8 @@ use borrow.Author.Needs.{needs}
 use Rattle.slots.proofs.get_change.Statement.{statement}
 use Rattle.slots.proofs.get_change.Tie as tie
 
-number-at-requires : tie.Need-number-at-requires
-number-at-requires c κs = search needs
+get-at-requires : tie.Need-get-at-requires
+get-at-requires c κs = search needs
 
 new-requires : tie.Need-new-requires
 new-requires c κs = search needs
@@ -18,8 +18,8 @@ enum-told c = search needs
 returns : tie.Need-returns
 returns c = search no-log
 
-number-at-requires-2 : tie.Need-number-at-requires-2
-number-at-requires-2 c κs = search needs
+get-at-requires-2 : tie.Need-get-at-requires-2
+get-at-requires-2 c κs = search needs
 
 returns-2 : tie.Need-returns-2
 returns-2 c = search no-force
@@ -48,11 +48,11 @@ enum-told-3 c = search needs
 returns-4 : tie.Need-returns-4
 returns-4 c = search no-new
 
-number-at-requires-3 : tie.Need-number-at-requires-3
-number-at-requires-3 c κs = search needs
+get-at-requires-3 : tie.Need-get-at-requires-3
+get-at-requires-3 c κs = search needs
 
-short-at-requires : tie.Need-short-at-requires
-short-at-requires c κs = search needs
+get16-at-requires : tie.Need-get16-at-requires
+get16-at-requires c κs = search needs
 
 change-from-requires : tie.Need-change-from-requires
 change-from-requires c κs = search needs
@@ -64,12 +64,12 @@ pub get-change-spec : {M : Type 1} → statement M
 get-change-spec =
     tie.close
     (tie.spec
-    number-at-requires
+    get-at-requires
     new-requires
     enum-known-log
     enum-told
     returns
-    number-at-requires-2
+    get-at-requires-2
     returns-2
     get-expected-requires
     enum-known-expected
@@ -79,7 +79,7 @@ get-change-spec =
     enum-known-new
     enum-told-3
     returns-4
-    number-at-requires-3
-    short-at-requires
+    get-at-requires-3
+    get16-at-requires
     change-from-requires
     returns-5)

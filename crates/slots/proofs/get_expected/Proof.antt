@@ -15,8 +15,8 @@ enum-told c = search needs
 returns : tie.Need-returns
 returns c = search no-expected
 
-number-at-requires : tie.Need-number-at-requires
-number-at-requires c κs = search needs
+get-at-requires : tie.Need-get-at-requires
+get-at-requires c κs = search needs
 
 new-requires : tie.Need-new-requires
 new-requires c κs = search needs
@@ -32,6 +32,6 @@ get-expected-spec =
     enum-known-was
     enum-told
     returns
-    number-at-requires
+    get-at-requires
     new-requires
     returns-2)

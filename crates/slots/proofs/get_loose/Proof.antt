@@ -4,19 +4,19 @@ use borrow.Author.Needs.{needs}
 use Rattle.slots.proofs.get_loose.Statement.{statement}
 use Rattle.slots.proofs.get_loose.Tie as tie
 
-number-at-requires : tie.Need-number-at-requires
-number-at-requires c κs = search needs
+get-at-requires : tie.Need-get-at-requires
+get-at-requires c κs = search needs
 
-number-at-requires-2 : tie.Need-number-at-requires-2
-number-at-requires-2 c κs = search needs
+get-at-requires-2 : tie.Need-get-at-requires-2
+get-at-requires-2 c κs = search needs
 
 loose-from-requires : tie.Need-loose-from-requires
 loose-from-requires c κs = search needs
 
 returns : tie.Need-returns
 unfolding looseIn
-returns c = c .loose-from .ensures ∙ ap₂ looseFrom (c .before .before .number-at .ensures) (c .before .number-at2 .ensures)
+returns c = c .loose-from .ensures ∙ ap₂ looseFrom (c .before .before .get-at .ensures) (c .before .get-at2 .ensures)
 
 pub get-loose-spec : {M : Type 1} → statement M
 get-loose-spec =
-    tie.close (tie.spec number-at-requires number-at-requires-2 loose-from-requires returns)
+    tie.close (tie.spec get-at-requires get-at-requires-2 loose-from-requires returns)

@@ -27,11 +27,11 @@ enum-told-2 c = search needs
 returns-2 : tie.Need-returns-2
 returns-2 c = search row-no-parent
 
-short-at-requires : tie.Need-short-at-requires
-short-at-requires c κs = search needs
+get16-at-requires : tie.Need-get16-at-requires
+get16-at-requires c κs = search needs
 
-number-at-requires : tie.Need-number-at-requires
-number-at-requires c κs = search needs
+get-at-requires : tie.Need-get-at-requires
+get-at-requires c κs = search needs
 
 new-requires : tie.Need-new-requires
 new-requires c κs = search needs
@@ -51,7 +51,7 @@ get-row-spec =
     enum-known-parent
     enum-told-2
     returns-2
-    short-at-requires
-    number-at-requires
+    get16-at-requires
+    get-at-requires
     new-requires
     returns-3)

@@ -3,14 +3,14 @@ use borrow.Author.Needs.{needs}
 use Rattle.slots.proofs.get_target.Statement.{statement}
 use Rattle.slots.proofs.get_target.Tie as tie
 
-number-at-requires : tie.Need-number-at-requires
-number-at-requires c κs = search needs
+get-at-requires : tie.Need-get-at-requires
+get-at-requires c κs = search needs
 
-add-number-at : tie.Need-add-number-at
-add-number-at c = search needs
+add-get-at : tie.Need-add-get-at
+add-get-at c = search needs
 
-number-at-requires-2 : tie.Need-number-at-requires-2
-number-at-requires-2 c κs = search needs
+get-at-requires-2 : tie.Need-get-at-requires-2
+get-at-requires-2 c κs = search needs
 
 target-from-requires : tie.Need-target-from-requires
 target-from-requires c κs = search needs
@@ -21,4 +21,4 @@ returns c = search target-in
 pub get-target-spec : {M : Type 1} → statement M
 get-target-spec =
     tie.close
-    (tie.spec number-at-requires add-number-at number-at-requires-2 target-from-requires returns)
+    (tie.spec get-at-requires add-get-at get-at-requires-2 target-from-requires returns)

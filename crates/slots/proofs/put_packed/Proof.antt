@@ -1,19 +1,19 @@
-use Rattle.slots.proofs.Laws.{put-packed-none, put-packed-object}
 use borrow.Author.Needs.{needs}
+use Rattle.slots.proofs.Laws.{put-packed-none, put-packed-object}
 use Rattle.slots.proofs.put_packed.Statement.{statement}
 use Rattle.slots.proofs.put_packed.Tie as tie
 
 enum-told : tie.Need-enum-told
 enum-told c = search needs
 
-put64-requires : tie.Need-put64-requires
-put64-requires c κs = search needs
+put-requires : tie.Need-put-requires
+put-requires c κs = search needs
 
 enum-known-v : tie.Need-enum-known-v
 enum-known-v c = search needs
 
-put64-requires-2 : tie.Need-put64-requires-2
-put64-requires-2 c κs = search needs
+put-requires-2 : tie.Need-put-requires-2
+put-requires-2 c κs = search needs
 
 same-length : tie.Need-same-length
 same-length c = search needs
@@ -32,9 +32,9 @@ put-packed-spec =
     tie.close
     (tie.spec
     enum-told
-    put64-requires
+    put-requires
     enum-known-v
-    put64-requires-2
+    put-requires-2
     same-length
     returns
     same-length-2
