@@ -7,20 +7,19 @@ pub fn is_fine(region: &[u8]) -> bool
     requires { ⌜ Laid (now region) ⌝ }
     ensures { λ r. ⌜ r ≡ fine (view (now (region .entry))) ⌝ }
 {
-    if !rules::is_sound(region) {
+    if !rules::names_fine(region) {
+        return false;
+    }
+    if !rules::lines_fine(region) {
+        return false;
+    }
+    if !rules::rows_fine(region) {
         return false;
     }
     if !kept::locks_fine(region) {
         return false;
     }
-    if !kept::packed_lock_fine(region) {
-        return false;
-    }
-    let due = due::count_due(region);
-    if due > 1024 {
-        return false;
-    }
-    region::count_lines(region) + due <= 1024
+    kept::room_fine(region)
 }
 
 // Whether a region is the image of a store that obeys the rules.

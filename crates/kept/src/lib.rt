@@ -1,76 +1,130 @@
-// R4, which locks are ours: which rows of a prepared transaction keep their lock, and whether each lock is ours exactly if one does.
-// The names are those of the scope's rule R4.
+// What the rules ask of all rows together: R2, whether the packed table is opened; R4, which locks are ours; and the room that the
+// due lines take.
 ghost use mathlib.Core.Path.{_≡_};
 ghost use mathlib.Core.Bool.{_&&_};
-ghost use Prim.Native.Nat.{_<_};
+ghost use Prim.Native.Nat.{_<_, _≤_};
+ghost use lib.ListN.{length};
 ghost use lib.Dec.{eqb};
-ghost use Rattle.transaction.specs.Change.{existingIn};
-ghost use Rattle.model.specs.Basic.{below};
-ghost use Rattle.model.specs.Store.{count, isLock};
-ghost use Rattle.model.specs.Rows.{nameIn, isDirect, keepsLock};
-ghost use Rattle.model.specs.Fine.{keptFor, fineLock, finePackedLock};
+ghost use Rattle.model.specs.Basic.{any, below};
+ghost use Rattle.model.specs.Store.{Entry, count, rowsIn, modeIn, isLock, isPacked};
+ghost use Rattle.model.specs.Rows.{nameIn, counts, packsUpdates, countsAsUpdate, opens, keepsLock};
+ghost use Rattle.model.specs.Due.{unsigned, dueLine, dueLines};
+ghost use Rattle.model.specs.Fine.{keptFor, fineLock, finePackedLock, fineLocks, fineRoom};
 ghost use Rattle.region.specs.Region.{view, Laid};
+use model::Line;
 use model::Lock;
-use target::OptionTarget;
-use transaction::Change;
+use model::OptionLine;
+use model::Packed;
+use target::NameNumber;
 use transaction::Edit;
 use transaction::PackedRefs;
 
-// R4: mode 3, an update to an object, and a packable name.
-fn is_direct(region: &[u8], mode: PackedRefs, row: Edit) -> bool
+// ---- R2
+
+pub fn any_counts(region: &[u8]) -> bool
     requires { ⌜ Laid (now region) ⌝ }
-    ensures { λ r. ⌜ r ≡ isDirect (view (now (region .entry))) mode row ⌝ }
+    ensures { λ r. ⌜ r ≡ any (counts (view (now (region .entry)))) (rowsIn (view (now (region .entry)) .prepared)) ⌝ }
 {
-    if mode.number() != 3 {
+    let rows = region::count_rows(region);
+    let mut i: usize = 0;
+    while i < rows {
+        let yes = rows::counts_row(region, region::row_at(region, i));
+        if yes {
+            return true;
+        } else {
+            i += 1;
+        }
+    }
+    false
+}
+
+fn any_update_counts(region: &[u8]) -> bool
+    requires { ⌜ Laid (now region) ⌝ }
+    ensures { λ r. ⌜ r ≡ any (countsAsUpdate (view (now (region .entry)))) (rowsIn (view (now (region .entry)) .prepared)) ⌝ }
+{
+    let rows = region::count_rows(region);
+    let mut i: usize = 0;
+    while i < rows {
+        let yes = rows::counts_as_update(region, region::row_at(region, i));
+        if yes {
+            return true;
+        } else {
+            i += 1;
+        }
+    }
+    false
+}
+
+pub fn is_packed(v: Packed) -> bool
+    ensures { λ r. ⌜ r ≡ isPacked v ⌝ }
+{
+    match v {
+        Packed::None => false,
+        Packed::Object(_) => true,
+    }
+}
+
+fn any_packed(region: &[u8]) -> bool
+    requires { ⌜ Laid (now region) ⌝ }
+    ensures { λ r. ⌜ r ≡ any (λ (e : Entry). isPacked (e .packed)) (view (now (region .entry)) .entries) ⌝ }
+{
+    let count = region::count_names(region);
+    let mut n: usize = 0;
+    while n < count {
+        let yes = is_packed(region::packed_at(region, NameNumber::at(n)));
+        if yes {
+            return true;
+        } else {
+            n += 1;
+        }
+    }
+    false
+}
+
+// Modes 2 and 3 pack updates too.
+fn packs_update(region: &[u8]) -> bool
+    requires { ⌜ Laid (now region) ⌝ }
+    ensures { λ r. ⌜ r ≡ (packsUpdates (modeIn (view (now (region .entry)) .prepared)) && any (countsAsUpdate (view (now (region .entry)))) (rowsIn (view (now (region .entry)) .prepared))) ⌝ }
+{
+    let mode = region::mode(region);
+    if mode.number() < 2 {
         return false;
     }
+    any_update_counts(region)
+}
+
+// R2: whether the packed table is opened.
+pub fn opens_table(region: &[u8]) -> bool
+    requires { ⌜ Laid (now region) ⌝ }
+    ensures { λ r. ⌜ r ≡ opens (view (now (region .entry))) (modeIn (view (now (region .entry)) .prepared)) (rowsIn (view (now (region .entry)) .prepared)) ⌝ }
+{
+    if !any_counts(region) {
+        return false;
+    }
+    if packs_update(region) {
+        return true;
+    }
+    any_packed(region)
+}
+
+// ---- R4: a lock is ours exactly if some row keeps it
+
+fn keeps_for(region: &[u8], mode: PackedRefs, row: Edit, n: NameNumber) -> bool
+    requires { ⌜ Laid (now region) ⌝ }
+    ensures { λ r. ⌜ r ≡ (eqb (nameIn row .0) (n .0) && keepsLock (view (now (region .entry))) mode row) ⌝ }
+{
     let update = row.update;
-    let change = update.change;
-    if !opened::is_object(change.new_value()) {
-        return false;
-    }
     let name = update.name;
-    opened::name_packable(region, name)
-}
-
-// The value that a prepared row found: expected 3 has it, anything else found nothing.
-fn existing_in(change: Change) -> OptionTarget
-    ensures { λ r. ⌜ r ≡ existingIn change ⌝ }
-{
-    match change {
-        Change::Update {
-            log: _,
-            expected,
-            new: _,
-        } => opened::matched_by(expected),
-        Change::Delete { expected, log: _ } => opened::matched_by(expected),
+    if !name.eq(n) {
+        return false;
     }
-}
-
-// R4: whether a prepared row keeps its lock.
-fn keeps_lock(region: &[u8], mode: PackedRefs, row: Edit) -> bool
-    requires { ⌜ Laid (now region) ⌝ }
-    ensures { λ r. ⌜ r ≡ keepsLock (view (now (region .entry))) mode row ⌝ }
-{
-    let update = row.update;
-    let change = update.change;
-    if change.byte() == Change::DELETE {
-        return true;
-    }
-    if is_direct(region, mode, row) {
-        return true;
-    }
-    let new = change.new_value();
-    if opened::is_symbolic(new) {
-        return true;
-    }
-    !new.eq(existing_in(change))
+    rows::keeps_lock(region, mode, row)
 }
 
 // Whether some row of the name keeps its lock.
-fn kept_for(region: &[u8], n: usize) -> bool
+fn kept_for(region: &[u8], n: NameNumber) -> bool
     requires { ⌜ Laid (now region) ⌝ }
-    ensures { λ r. ⌜ r ≡ keptFor (view (now (region .entry))) n ⌝ }
+    ensures { λ r. ⌜ r ≡ keptFor (view (now (region .entry))) (n .0) ⌝ }
 {
     let mode = region::mode(region);
     let rows = region::count_rows(region);
@@ -86,18 +140,6 @@ fn kept_for(region: &[u8], n: usize) -> bool
     false
 }
 
-fn keeps_for(region: &[u8], mode: PackedRefs, row: Edit, n: usize) -> bool
-    requires { ⌜ Laid (now region) ⌝ }
-    ensures { λ r. ⌜ r ≡ (eqb (nameIn row .0) n && keepsLock (view (now (region .entry))) mode row) ⌝ }
-{
-    let update = row.update;
-    let name = update.name;
-    if (name.0 as usize) != n {
-        return false;
-    }
-    keeps_lock(region, mode, row)
-}
-
 fn is_ours(lock: Lock) -> bool
     ensures { λ r. ⌜ r ≡ isLock Lock.Ours lock ⌝ }
 {
@@ -108,25 +150,24 @@ fn is_ours(lock: Lock) -> bool
     }
 }
 
-// A lock is ours exactly if some row keeps it.
-fn lock_fine(region: &[u8], n: usize) -> bool
+fn lock_fine(region: &[u8], n: NameNumber) -> bool
     requires { ⌜ Laid (now region) ⌝ }
-    requires { ⌜ n < count (view (now region)) ⌝ }
-    ensures { λ r. ⌜ r ≡ fineLock (view (now (region .entry))) n ⌝ }
+    requires { ⌜ n .0 < count (view (now region)) ⌝ }
+    ensures { λ r. ⌜ r ≡ fineLock (view (now (region .entry))) (n .0) ⌝ }
 {
     let ours = is_ours(region::lock_at(region, n));
     let kept = kept_for(region, n);
     ours == kept
 }
 
-pub fn locks_fine(region: &[u8]) -> bool
+fn name_locks_fine(region: &[u8]) -> bool
     requires { ⌜ Laid (now region) ⌝ }
     ensures { λ r. ⌜ r ≡ below (count (view (now (region .entry)))) (fineLock (view (now (region .entry)))) ⌝ }
 {
     let count = region::count_names(region);
     let mut n: usize = 0;
     while n < count {
-        let ok = lock_fine(region, n);
+        let ok = lock_fine(region, NameNumber::at(n));
         if ok {
             n += 1;
         } else {
@@ -137,11 +178,56 @@ pub fn locks_fine(region: &[u8]) -> bool
 }
 
 // The packed table's lock is ours exactly if it is opened.
-pub fn packed_lock_fine(region: &[u8]) -> bool
+fn packed_lock_fine(region: &[u8]) -> bool
     requires { ⌜ Laid (now region) ⌝ }
     ensures { λ r. ⌜ r ≡ finePackedLock (view (now (region .entry))) ⌝ }
 {
     let ours = is_ours(region::packed_lock(region));
-    let opened = opened::opens_table(region);
+    let opened = opens_table(region);
     ours == opened
+}
+
+pub fn locks_fine(region: &[u8]) -> bool
+    requires { ⌜ Laid (now region) ⌝ }
+    ensures { λ r. ⌜ r ≡ fineLocks (view (now (region .entry))) ⌝ }
+{
+    if !name_locks_fine(region) {
+        return false;
+    }
+    packed_lock_fine(region)
+}
+
+// ---- room for the lines that are due
+
+fn count_due_row(region: &[u8], row: Edit) -> usize
+    requires { ⌜ Laid (now region) ⌝ }
+    ensures { λ r. ⌜ (r ≡ length (dueLine unsigned (view (now (region .entry))) row)) × (r ≤ 1) ⌝ }
+{
+    let OptionLine::Line(_) = rows::due_line(region, 0, row) else {
+        return 0;
+    };
+    1
+}
+
+// How many lines the rows are due: at most one each.
+pub fn count_due(region: &[u8]) -> usize
+    requires { ⌜ Laid (now region) ⌝ }
+    ensures { λ r. ⌜ (r ≡ length (dueLines (view (now (region .entry))) (rowsIn (view (now (region .entry)) .prepared)))) × (r ≤ length (rowsIn (view (now (region .entry)) .prepared))) ⌝ }
+{
+    let rows = region::count_rows(region);
+    let mut due: usize = 0;
+    let mut i: usize = 0;
+    while i < rows {
+        due += count_due_row(region, region::row_at(region, i));
+        i += 1;
+    }
+    due
+}
+
+// Log lines and due lines together are at most 1,024.
+pub fn room_fine(region: &[u8]) -> bool
+    requires { ⌜ Laid (now region) ⌝ }
+    ensures { λ r. ⌜ r ≡ fineRoom (view (now (region .entry))) ⌝ }
+{
+    region::count_lines(region) + count_due(region) <= Line::LIMIT
 }

@@ -74,6 +74,10 @@ abbrev pub fineParent : ℕ → ParentIndex → Bool
 fineParent i NoParent = true
 fineParent i (Parent j) = ltb j i
 
+-- each parent among the first n rows is an earlier row, or none: so the climb ends, since the place falls
+pub record Upward (n : ℕ) (rows : List Edit) : Type 0 where
+  pub up : Below n (λ i. fineParent i (rowAt rows i .«parent_index»))
+
 -- the row at place i: no name is followed any more, and it has at most four ancestors
 abbrev pub rowTests : ℕ → List Edit → ℕ → List Bool
 rowTests n rows i =

@@ -47,6 +47,12 @@ pub struct Line {
     pub message: u16,
 }
 
+// What may be missing where a line is looked for, or is due.
+pub enum OptionLine {
+    NoLine,
+    Line(Line),
+}
+
 impl Line {
     // At most 1,024 lines in all.
     pub const LIMIT: usize = 1024;

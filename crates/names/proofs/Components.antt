@@ -11,7 +11,7 @@ use lib.Dec.{eqb}
 use borrow.Author.Tests.{eq-eqb, ne-eqb, not-true, not-false}
 use Rattle.model.specs.Basic.{all}
 use Rattle.model.specs.Names.{isComponent, components, grow}
-use Rattle.spelling.proofs.Bytes.{to-end}
+use Rattle.names.proofs.Bytes.{to-end}
 use Rattle.names.specs.Parts.{toSlash}
 
 -- ---- every byte passes a test

@@ -10,8 +10,8 @@ use borrow.Author.Tests.{le-leb, lt-leb, not-true, not-false}
 use Rattle.model.specs.Basic.{text, all, isEmpty}
 use Rattle.model.specs.Names.{begins, within, isUpper, isComponentByte, isSpecial, isComponent, components, isRef, isName}
 use Rattle.model.proofs.Rules.{both-true}
-use Rattle.spelling.specs.Ends.{ends}
-use Rattle.spelling.proofs.Bytes.{to-end}
+use Rattle.names.specs.Ends.{ends}
+use Rattle.names.proofs.Bytes.{to-end}
 
 -- ---- special names
 

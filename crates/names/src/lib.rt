@@ -2,6 +2,9 @@
 // Every answer is that of a definition of crates/model/specs/Names.antt.
 use model::WriteReflog;
 use target::NameNumber;
+
+pub mod spelling;
+
 ghost use mathlib.Core.Path.{_≡_};
 ghost use Rattle.model.specs.Basic.{all};
 ghost use Rattle.model.specs.Names.{isUpper, isSpecial, isComponentByte, isComponent};

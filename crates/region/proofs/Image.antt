@@ -35,7 +35,7 @@ use Rattle.model.specs.Load.{settingOf}
 use Rattle.slots.specs.Values.{looseForm, packedForm, packedIn, lockForm, lockFrom, lineForm, lineIn}
 use Rattle.slots.specs.Row.{rowForm}
 use Rattle.region.specs.Layout.{settingAt, packedLockAt, nameBase, nameWidth, looseBase, looseWidth, packedBase, packedWidth, lockBase, lockWidth, rowBase, rowWidth, lineBase, lineWidth, restSize, sizes}
-use Rattle.region.specs.Region.{settingByte, modeByte, sections, image, nameCount, lineCount, modeNumber, rowCount, entryIn, lineAt, rowAt, preparedFrom, view, layout}
+use Rattle.region.specs.Region.{settingByte, modeByte, sections, image, nameCount, lineCount, modeNumber, rowCount, entrySeen, lineSeen, rowSeen, preparedFrom, view, layout}
 use Rattle.slots.proofs.Codecs.{looses, packeds, locks, lines, rows}
 use Rattle.region.proofs.Sized.{sized, length-image}
 use Rattle.region.proofs.Fits.{FitsStore}
@@ -215,7 +215,7 @@ module _ (s : Store) (f : FitsStore s) where
       (bytes-append (column-bytes lines (λ (l : Line). l) noLine 1024 (s .lines) (f .line)) noBytes)))))))))))))
 
   -- the values at a name, a line, a row
-  entry-image : (i : ℕ) → i < count s → entryIn (image s) i ≡ entryAt s i
+  entry-image : (i : ℕ) → i < count s → entrySeen (image s) i ≡ entryAt s i
   unfolding names looses packeds locks
   entry-image i h =
       entry-same _ _ _ _ (entryAt s i)
@@ -228,17 +228,17 @@ module _ (s : Store) (f : FitsStore s) where
       (column-part locks (λ (e : Entry). e .lock) noEntry 256 (count s) lockBase (image s) (s .entries) refl (f .names)
       (λ j k. tt) (lockTable s) i h)
 
-  entries-image : tabulate (nameCount (image s)) (entryIn (image s)) ≡ s .entries
+  entries-image : tabulate (nameCount (image s)) (entrySeen (image s)) ≡ s .entries
   entries-image =
-      ap (λ (n : ℕ). tabulate n (entryIn (image s))) names-image
-      ∙ tabulate-getD (s .entries) noEntry (entryIn (image s)) entry-image
+      ap (λ (n : ℕ). tabulate n (entrySeen (image s))) names-image
+      ∙ tabulate-getD (s .entries) noEntry (entrySeen (image s)) entry-image
 
-  allLines-image : tabulate (lineCount (image s)) (lineAt (image s)) ≡ s .lines
+  allLines-image : tabulate (lineCount (image s)) (lineSeen (image s)) ≡ s .lines
   unfolding lines elements
   allLines-image =
       forth-elements lines 1024 (lineCount (image s)) lineBase (image s) (s .lines) noLine lines-image (f .lines) (f .line) (lineTable s)
 
-  allRows-image : tabulate (rowCount (image s)) (rowAt (image s)) ≡ rowsIn (s .prepared)
+  allRows-image : tabulate (rowCount (image s)) (rowSeen (image s)) ≡ rowsIn (s .prepared)
   unfolding rows elements
   allRows-image =
       forth-elements rows 160 (rowCount (image s)) rowBase (image s) (rowsIn (s .prepared)) noRow rows-image (f .rows) (f .row) (rowTable s)

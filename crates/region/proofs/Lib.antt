@@ -7,6 +7,3 @@ pub mod Decode
 pub mod Read
 pub mod ReadLaws
 pub mod Sized
-pub mod WriteLaws
-pub mod Write
-pub mod PutLaws

@@ -18,7 +18,7 @@ use Rattle.word.proofs.Slots.{okTable-held, slot-end}
 use Rattle.model.specs.Store.{Entry, noLine, count, entryAt, rowsIn}
 use Rattle.model.specs.Rows as model
 use Rattle.region.specs.Layout.{nameBase, nameWidth}
-use Rattle.region.specs.Region.{modeByte, nameCount, modeNumber, rowCount, entryIn, lineAt, rowAt, nameOffset, view, Laid}
+use Rattle.region.specs.Region.{modeByte, nameCount, modeNumber, rowCount, entrySeen, lineSeen, rowSeen, nameOffset, view, Laid}
 use Rattle.region.proofs.Parts.{parts}
 use Rattle.region.proofs.Seen as seen
 pub use Rattle.region.proofs.Seen.{count-view, lines-view, setting-view, packedLock-view, modeIn-view}
@@ -33,14 +33,14 @@ mode-view r l = seen.mode-byte r (parts r (l .ok))
 
 -- ---- what stands at a name, a line, a row
 
-pub entry-view : (r : List ℕ) (n : ℕ) → n < count (view r) → entryAt (view r) n ≡ entryIn r n
+pub entry-view : (r : List ℕ) (n : ℕ) → n < count (view r) → entryAt (view r) n ≡ entrySeen r n
 entry-view r n h = seen.entry-at r n (rw count-view at h)
 
-pub line-view : (r : List ℕ) (i : ℕ) → i < length (view r .lines) → getD (view r .lines) i noLine ≡ lineAt r i
+pub line-view : (r : List ℕ) (i : ℕ) → i < length (view r .lines) → getD (view r .lines) i noLine ≡ lineSeen r i
 line-view r i h = seen.line-at r i (rw lines-view at h)
 
 pub row-view : (r : List ℕ) → Laid r → (i : ℕ) → i < length (rowsIn (view r .prepared))
-    → model.rowAt (rowsIn (view r .prepared)) i ≡ rowAt r i
+    → model.rowAt (rowsIn (view r .prepared)) i ≡ rowSeen r i
 row-view r l i h = seen.row-at r (parts r (l .ok)) i (le-trans h (le-of-eq (rows-view r l)))
 
 -- ---- the bytes of a text in its slot of w + 1 bytes at a

@@ -4,7 +4,7 @@ use mathlib.Core.Bool.{false}
 use mathlib.Core.List.{List}
 use mathlib.Core.Option.{Option, none, some, Option·getD}
 use Prim.Native.Nat.{ℕ, zero, suc, _+_, _-_, _*_, _≤_, _<_}
-use native.Mathlib.Nat.{add-zero, mul-one}
+use native.Mathlib.Nat.{add-zero}
 use native.Mathlib.Omega.{arith}
 use lib.ListN.{length, getD}
 use mir.Syntax.{w64}
@@ -13,6 +13,9 @@ use Rattle.word.specs.Be.{cut, val}
 use Rattle.word.specs.Codec.{slot}
 use Rattle.word.specs.Fields.{unfields}
 use Rattle.word.proofs.Cut.{cut-cut}
+use Rattle.target.specs.declared.NameNumber.{NameNumber}
+use Rattle.target.specs.declared.OptionName.{OptionName}
+use Rattle.target.specs.Fields.{nameBelow}
 use Rattle.target.specs.declared.ObjectNumber.{ObjectNumber}
 use Rattle.target.specs.declared.Target.the-variants.{Object}
 use Rattle.transaction.specs.declared.LogChange.{LogChange}
@@ -77,6 +80,9 @@ module _ (r : List ℕ) where
   unfolding nameCount
   names-read x e = e ∙ sym (count-view r)
 
+  pub known-is : (k x : ℕ) (o : OptionName) → k ≡ count (view r) → o ≡ nameBelow k x → o ≡ nameBelow (count (view r)) x
+  known-is k x o e f = f ∙ ap (λ (k : ℕ). nameBelow k x) e
+
   pub lines-read : (x : ℕ) → x ≡ val (cut 8 2 r) → x ≡ length (view r .lines)
   unfolding lineCount
   lines-read x e = e ∙ sym (lines-view r)
@@ -112,10 +118,9 @@ module _ (r : List ℕ) where
     pub setting-else : (b ≡ 1 → ⊥) → (b ≡ 2 → ⊥) → Disable ≡ view r .setting
     setting-else p q = setting-rest b p q ∙ setting-of
 
-  module _ (o : OptionLock) (e : lockOption o ≡ lockIn (cut 12 1 r)) where
+  module _ (x : ℕ) (o : OptionLock) (ex : x ≡ val (cut 12 1 r)) (e : lockOption o ≡ lockFrom x) where
     packed-lock-option : lockFrom (val (cut 12 1 r)) ≡ lockOption o
-    unfolding lockIn
-    packed-lock-option = ap (λ (s : List ℕ). lockFrom (val s)) (sym (whole 12 1 r)) ∙ sym e
+    packed-lock-option = ap lockFrom (sym ex) ∙ sym e
 
     pub packed-lock-found : (v : Lock) → o ≡ optionLock.Lock v → v ≡ view r .packedLock
     packed-lock-found v q = found _ v Free (packed-lock-option ∙ ap lockOption q) ∙ sym (packedLock-view r)
@@ -174,10 +179,9 @@ module _ (r : List ℕ) (n : ℕ) (h : n < count (view r)) where
       ∙ ap (λ (s : List ℕ). packedFrom (val s)) (lent (18957 + n * 8) 8 r ∙ sym (whole (18957 + n * 8) 8 r))
       ∙ ap (λ (e : Entry). e .packed) (sym (entry-view r n h))
 
-  module _ (o : OptionLock) (e : lockOption o ≡ lockIn (cut (21005 + n) (21005 + n + 1 - (21005 + n)) r)) where
+  module _ (o : OptionLock) (e : lockOption o ≡ lockIn (cut (21005 + n * 1) (21005 + n * 1 + 1 - (21005 + n * 1)) r)) where
     lock-option : lockIn (slot lockBase lockWidth n r) ≡ lockOption o
-    lock-option =
-        ap (λ (k : ℕ). lockIn (cut (21005 + k) 1 r)) (mul-one n) ∙ ap lockIn (sym (lent (21005 + n) 1 r)) ∙ sym e
+    lock-option = ap lockIn (sym (lent (21005 + n * 1) 1 r)) ∙ sym e
 
     lock-of : Option·getD (lockIn (slot lockBase lockWidth n r)) Free ≡ entryAt (view r) n .lock
     lock-of = ap (λ (e : Entry). e .lock) (sym (entry-view r n h))
@@ -190,9 +194,9 @@ module _ (r : List ℕ) (n : ℕ) (h : n < count (view r)) where
 
 -- ---- rows and lines
 
-pub no-row-is : (l : LogChange) (o : ObjectNumber) (u : RefEdit) (x : Edit) → l ≡ defaultLog → o .0 ≡ 0
-    → u ≡ record { change = Update l Any (Object o); name = record { 0 = 0 }; deref = false } → x ≡ rowOf u → x ≡ noRow
-no-row-is l o u x p q e f = f ∙ ap rowOf (e ∙ ap₂ edit p q)
+pub no-row-is : (l : LogChange) (o : ObjectNumber) (n : NameNumber) (u : RefEdit) (x : Edit) → l ≡ defaultLog → o .0 ≡ 0 → n ≡ record { 0 = 0 }
+    → u ≡ record { change = Update l Any (Object o); name = n; deref = false } → x ≡ rowOf u → x ≡ noRow
+no-row-is l o n u x p q m e f = f ∙ ap rowOf (e ∙ ap (λ (n : NameNumber). record { change = Update l Any (Object o); name = n; deref = false }) m ∙ ap₂ edit p q)
   where
     edit : LogChange → ℕ → RefEdit
     edit l k = record { change = Update l Any (Object (record { 0 = k })); name = record { 0 = 0 }; deref = false }

@@ -20,7 +20,7 @@ use Rattle.model.specs.Rows as model
 use Rattle.model.specs.Load.{settingOf}
 use Rattle.slots.specs.Values.{lockFrom}
 use Rattle.region.specs.Layout.{settingAt, packedLockAt}
-use Rattle.region.specs.Region.{settingByte, modeByte, nameCount, lineCount, modeNumber, rowCount, entryIn, lineAt, rowAt, preparedFrom, view}
+use Rattle.region.specs.Region.{settingByte, modeByte, nameCount, lineCount, modeNumber, rowCount, entrySeen, lineSeen, rowSeen, preparedFrom, view}
 use Rattle.region.proofs.Parts.{Parts}
 
 -- ---- the small fields, of numbers that have a meaning
@@ -63,11 +63,11 @@ cond-room false n h = h
 module _ (r : List ℕ) where
   pub count-view : count (view r) ≡ nameCount r
   unfolding view
-  count-view = length-tabulate (nameCount r) (entryIn r)
+  count-view = length-tabulate (nameCount r) (entrySeen r)
 
   pub lines-view : length (view r .lines) ≡ lineCount r
   unfolding view
-  lines-view = length-tabulate (lineCount r) (lineAt r)
+  lines-view = length-tabulate (lineCount r) (lineSeen r)
 
   pub setting-view : view r .setting ≡ Option·getD (settingOf (val (cut settingAt 1 r))) Disable
   unfolding view
@@ -80,15 +80,15 @@ module _ (r : List ℕ) where
   -- the mode of what is prepared
   pub modeIn-view : modeIn (view r .prepared) ≡ Option·getD (packedRefsOption (packedRefsOf (modeNumber r))) DeletionsOnly
   unfolding view
-  modeIn-view = mode-read (modeNumber r) (tabulate (rowCount r) (rowAt r))
+  modeIn-view = mode-read (modeNumber r) (tabulate (rowCount r) (rowSeen r))
 
-  pub entry-at : (n : ℕ) → n < nameCount r → entryAt (view r) n ≡ entryIn r n
+  pub entry-at : (n : ℕ) → n < nameCount r → entryAt (view r) n ≡ entrySeen r n
   unfolding view
-  entry-at n h = getD-tabulate (nameCount r) (entryIn r) n noEntry h
+  entry-at n h = getD-tabulate (nameCount r) (entrySeen r) n noEntry h
 
-  pub line-at : (i : ℕ) → i < lineCount r → getD (view r .lines) i noLine ≡ lineAt r i
+  pub line-at : (i : ℕ) → i < lineCount r → getD (view r .lines) i noLine ≡ lineSeen r i
   unfolding view
-  line-at i h = getD-tabulate (lineCount r) (lineAt r) i noLine h
+  line-at i h = getD-tabulate (lineCount r) (lineSeen r) i noLine h
 
 -- ---- one that is laid out so
 
@@ -103,17 +103,17 @@ module _ (r : List ℕ) (p : Parts r) where
 
   pub mode-byte : modeByte (view r .prepared) ≡ modeNumber r
   unfolding view
-  mode-byte = mode-forth (modeNumber r) (tabulate (rowCount r) (rowAt r)) (p .mode)
+  mode-byte = mode-forth (modeNumber r) (tabulate (rowCount r) (rowSeen r)) (p .mode)
 
-  pub rows-list : rowsIn (view r .prepared) ≡ tabulate (rowCount r) (rowAt r)
+  pub rows-list : rowsIn (view r .prepared) ≡ tabulate (rowCount r) (rowSeen r)
   unfolding view
-  rows-list = rows-forth (modeNumber r) (tabulate (rowCount r) (rowAt r)) (rw length-tabulate (p .rows))
+  rows-list = rows-forth (modeNumber r) (tabulate (rowCount r) (rowSeen r)) (rw length-tabulate (p .rows))
 
   pub few-rows : rowCount r ≤ 160
   few-rows = cond-room (eqb (modeNumber r) 0) (rowCount r) (p .rows)
 
   pub rows-count : length (rowsIn (view r .prepared)) ≡ rowCount r
-  rows-count = ap length rows-list ∙ length-tabulate (rowCount r) (rowAt r)
+  rows-count = ap length rows-list ∙ length-tabulate (rowCount r) (rowSeen r)
 
-  pub row-at : (i : ℕ) → i < rowCount r → model.rowAt (rowsIn (view r .prepared)) i ≡ rowAt r i
-  row-at i h = ap (λ (l : List Edit). model.rowAt l i) rows-list ∙ getD-tabulate (rowCount r) (rowAt r) i noRow h
+  pub row-at : (i : ℕ) → i < rowCount r → model.rowAt (rowsIn (view r .prepared)) i ≡ rowSeen r i
+  row-at i h = ap (λ (l : List Edit). model.rowAt l i) rows-list ∙ getD-tabulate (rowCount r) (rowSeen r) i noRow h

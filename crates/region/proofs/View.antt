@@ -21,7 +21,7 @@ use Rattle.model.specs.Store.{Entry, noEntry, noLine, noRow, rowsIn}
 use Rattle.slots.specs.Values.{looseForm, packedForm, packedIn, lockForm, lineForm, lineIn, FitsLoose, FitsPacked, FitsLine}
 use Rattle.slots.specs.Row.{rowForm, FitsRow}
 use Rattle.region.specs.Layout.{nameBase, nameWidth, looseBase, looseWidth, packedBase, packedWidth, lockBase, lockWidth, rowBase, rowWidth, lineBase, lineWidth, sizes}
-use Rattle.region.specs.Region.{sections, image, nameCount, lineCount, modeNumber, rowCount, entryIn, lineAt, rowAt, view, layout}
+use Rattle.region.specs.Region.{sections, image, nameCount, lineCount, modeNumber, rowCount, entrySeen, lineSeen, rowSeen, view, layout}
 use Rattle.slots.proofs.Codecs.{looses, packeds, locks, lines, rows}
 use Rattle.region.proofs.Fits.{FitsStore}
 use Rattle.region.proofs.Parts.{Parts, parts}
@@ -101,7 +101,7 @@ module _ (r : List ℕ) (p : Parts r) where
   -- ---- it fits
 
   entry-fits : (i : ℕ) → i < nameCount r
-      → FineText 64 (entryIn r i .name) × FitsLoose (entryIn r i .loose) × FitsPacked (entryIn r i .packed)
+      → FineText 64 (entrySeen r i .name) × FitsLoose (entrySeen r i .loose) × FitsPacked (entrySeen r i .packed)
   unfolding names looses packeds packedIn
   entry-fits i h =
       let k : i < 256 = le-trans h (p .names) in (
@@ -110,12 +110,12 @@ module _ (r : List ℕ) (p : Parts r) where
         slot-fits packeds 256 (nameCount r) packedBase r (p .bytes) (inside (packedBase + 2048) (lit≤ tt)) (p .packedOk) i k h,
       )
 
-  line-fits : (i : ℕ) → i < lineCount r → FitsLine (lineAt r i)
+  line-fits : (i : ℕ) → i < lineCount r → FitsLine (lineSeen r i)
   unfolding lines lineIn
   line-fits i h =
       slot-fits lines 1024 (lineCount r) lineBase r (p .bytes) (inside (lineBase + 22528) (lit≤ tt)) (p .lineOk) i (le-trans h (p .lines)) h
 
-  row-fits : (i : ℕ) → i < rowCount r → FitsRow (rowAt r i)
+  row-fits : (i : ℕ) → i < rowCount r → FitsRow (rowSeen r i)
   unfolding rows
   row-fits i h =
       slot-fits rows 160 (rowCount r) rowBase r (p .bytes) (inside (rowBase + 5760) (lit≤ tt)) (p .rowOk) i (le-trans h (few-rows r p)) h

@@ -78,19 +78,19 @@ modeNumber r = val (cut modeAt 1 r)
 unfoldable pub rowCount : List ℕ → ℕ
 rowCount r = val (cut rowsAt 1 r)
 
-abbrev pub entryIn : List ℕ → ℕ → Entry
-entryIn r i = record {
+abbrev pub entrySeen : List ℕ → ℕ → Entry
+entrySeen r i = record {
   name = decText (slot nameBase nameWidth i r);
   loose = Option·getD (looseIn (slot looseBase looseWidth i r)) loose.None;
   packed = Option·getD (packedIn (slot packedBase packedWidth i r)) packed.None;
   lock = Option·getD (lockIn (slot lockBase lockWidth i r)) Free;
 }
 
-abbrev pub lineAt : List ℕ → ℕ → Line
-lineAt r i = Option·getD (lineIn (slot lineBase lineWidth i r)) noLine
+abbrev pub lineSeen : List ℕ → ℕ → Line
+lineSeen r i = Option·getD (lineIn (slot lineBase lineWidth i r)) noLine
 
-abbrev pub rowAt : List ℕ → ℕ → Edit
-rowAt r i = Option·getD (rowIn (slot rowBase rowWidth i r)) noRow
+abbrev pub rowSeen : List ℕ → ℕ → Edit
+rowSeen r i = Option·getD (rowIn (slot rowBase rowWidth i r)) noRow
 
 abbrev pub preparedFrom : ℕ → List Edit → Option Prepared
 preparedFrom zero rows = none
@@ -99,11 +99,11 @@ preparedFrom (suc m) rows =
 
 unfoldable pub view : List ℕ → Store
 view r = record {
-  entries = tabulate (nameCount r) (entryIn r);
+  entries = tabulate (nameCount r) (entrySeen r);
   packedLock = Option·getD (lockFrom (val (cut packedLockAt 1 r))) Free;
-  lines = tabulate (lineCount r) (lineAt r);
+  lines = tabulate (lineCount r) (lineSeen r);
   setting = Option·getD (settingOf (val (cut settingAt 1 r))) Disable;
-  prepared = preparedFrom (modeNumber r) (tabulate (rowCount r) (rowAt r));
+  prepared = preparedFrom (modeNumber r) (tabulate (rowCount r) (rowSeen r));
 }
 
 -- where the bytes of a name stand: behind the length in its slot
@@ -140,10 +140,6 @@ good r = layout r && fine (view r)
 
 unfoldable pub decode : List ℕ → Option Store
 decode r = cond (good r) (some (view r)) none
-
--- a store with nothing prepared, whatever its locks
-abbrev pub unprepared : Store → Store
-unprepared s = record { entries = s .entries; packedLock = s .packedLock; lines = s .lines; setting = s .setting; prepared = none }
 
 -- ---- what accessors ask for, and what those that write leave
 

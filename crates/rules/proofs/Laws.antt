@@ -3,21 +3,23 @@
 use mathlib.Core.Path.{_≡_, refl, sym, ap, ap₂, _∙_}
 use mathlib.Core.Bool.{Bool, true, false, not, and-true}
 use mathlib.Core.List.{List, [], _∷_}
-use Prim.Native.Nat.{ℕ, zero, suc, _+_, _-_, _<_, _≤_, _^_}
+use Prim.Native.Nat.{ℕ, suc, _+_, _<_, _≤_, _^_}
 use native.Mathlib.Omega.{arith}
-use lib.ListN.{length, getD, take, List·getD-eq-default}
+use lib.ListN.{length, getD}
 use lib.Dec.{eqb, ltb, leb}
-use borrow.Author.Tests.{lt-ltb, le-ltb, le-leb, eqb-true, eqb-false, eq-eqb, ne-eqb, not-true, not-false}
+use borrow.Author.Count.{below-more as further}
+use borrow.Author.Tests.{lt-ltb, le-ltb, le-leb, eqb-true, eqb-false, ne-eqb, not-true, not-false}
 use mir.Val.{Fits}
 use mir.Syntax.{w16, w64}
 use Rattle.word.specs.Tests.{sameList}
-use Rattle.word.proofs.Tests.{every-false, below-false, below-more}
+use Rattle.word.proofs.Tests.{every-at, every-false, below-false, below-true, below-more}
 use Rattle.target.specs.declared.ObjectNumber.{ObjectNumber}
 use Rattle.target.specs.declared.NameNumber.{NameNumber}
 use Rattle.target.specs.declared.Target.{Target}
 use Rattle.target.specs.declared.Target.the-variants.{Object, Symbolic}
 use Rattle.target.specs.declared.OptionTarget.{OptionTarget}
 use Rattle.target.specs.declared.OptionTarget.the-variants.{Present}
+use Rattle.target.specs.Target.{sameName}
 use Rattle.transaction.specs.declared.ParentIndex.{ParentIndex}
 use Rattle.transaction.specs.declared.ParentIndex.the-variants.{NoParent, Parent}
 use Rattle.transaction.specs.declared.Edit.{Edit}
@@ -29,9 +31,11 @@ use Rattle.model.specs.declared.Packed.the-variants as packed
 use Rattle.model.specs.declared.Line.{Line}
 use Rattle.model.specs.Basic.{every, below}
 use Rattle.model.specs.Names.{isName, packable}
-use Rattle.model.specs.Store.{Store, count, entryAt, noLine, noRow, rowsIn, isId}
-use Rattle.model.specs.Rows.{nameIn, changeIn, rowAt, climb, ancestors}
-use Rattle.model.specs.Fine.{entryTests, lineTests, rowTests, fineTarget, fineOption, fineLoose, finePacked, fineEntry, fineLine, fineParent, fineRow, apartNames, apartRows, tests}
+use Rattle.model.specs.Store.{Store, count, entryAt, entryOf, nameOf, noLine, rowsIn, isId}
+use Rattle.model.specs.Rows.{nameIn, changeIn, rowAt, ancestors}
+use Rattle.model.specs.Fine.{entryTests, lineTests, rowTests, fineTarget, fineOption, fineLoose, finePacked, fineEntry, fineLine, fineParent, fineRow, apartNames, apartRows}
+use Rattle.model.specs.Fine.{Upward, nameRules, rowRules, fineNames, fineLines, fineRows}
+use Rattle.model.proofs.Climbs.{ancestors-none, ancestors-up, falls}
 use Rattle.slots.specs.Row.{FitsRow}
 use Rattle.region.specs.Region.{view, Laid}
 use Rattle.region.proofs.Decode.{laid-image}
@@ -70,8 +74,8 @@ is-id x f = let p : x < 2 ^ 64 = f .fits in rw (lt-ltb x (2 ^ 64) p) (positive x
 pub target-object : (n : ℕ) (t : Target) (o : ObjectNumber) → t ≡ Object o → Fits w64 (o .0) → not (eqb (o .0) 0) ≡ fineTarget n t
 target-object n t o e f = rw e (is-id (o .0) f)
 
-pub target-link : (n : ℕ) (t : Target) (m : NameNumber) → t ≡ Symbolic m → ltb (m .0) n ≡ fineTarget n t
-target-link n t m e = rw e
+pub target-link : (n : ℕ) (t : Target) (m : NameNumber) (k : ℕ) → t ≡ Symbolic m → k ≡ m .0 → ltb k n ≡ fineTarget n t
+target-link n t m k e q = rw (e, q)
 
 pub option-present : (n : ℕ) (v : OptionTarget) (t : Target) (b : Bool) → v ≡ Present t → b ≡ fineTarget n t → b ≡ fineOption n v
 option-present n v t b e f = rw e f
@@ -84,56 +88,79 @@ pub packed-object : (name : List ℕ) (v : Packed) (o : ObjectNumber) (b : Bool)
 packed-object name v o b e h f g =
     let i : isId (o .0) ≡ true = sym (is-id (o .0) f) ∙ rw (ne-eqb (o .0) 0 h) in rw (e, i) g
 
-module _ (s : Store) (n : ℕ) (name : List ℕ) (b : Bool) (e : name ≡ entryAt s n .name) (f : b ≡ isName name) where
-  pub entry-name : not b ≡ true → false ≡ fineEntry (count s) (entryAt s n)
+module _ (s : Store) (n : NameNumber) (name : List ℕ) (b : Bool) (e : name ≡ entryOf s n .name) (f : b ≡ isName name) where
+  pub entry-name : not b ≡ true → false ≡ fineEntry (count s) (entryOf s n)
   unfolding fineEntry
   entry-name t =
-      sym (every-false (entryTests (count s) (entryAt s n)) 0
+      sym (every-false (entryTests (count s) (entryOf s n)) 0
       (ap isName (sym e) ∙ sym f ∙ not-true b t))
 
-  module _ (t : not b ≡ false) (k : ℕ) (v : Loose) (c : Bool) (q : k ≡ count s) (g : v ≡ entryAt s n .loose) (h : c ≡ fineLoose k v) where
-    pub entry-loose : not c ≡ true → false ≡ fineEntry (count s) (entryAt s n)
+  module _ (t : not b ≡ false) (k : ℕ) (v : Loose) (c : Bool) (q : k ≡ count s) (g : v ≡ entryOf s n .loose) (h : c ≡ fineLoose k v) where
+    pub entry-loose : not c ≡ true → false ≡ fineEntry (count s) (entryOf s n)
     unfolding fineEntry
     entry-loose u =
-        sym (every-false (entryTests (count s) (entryAt s n)) 1
+        sym (every-false (entryTests (count s) (entryOf s n)) 1
         (ap₂ fineLoose (sym q) (sym g) ∙ sym h ∙ not-true c u))
 
-    pub entry-packed : not c ≡ false → (w : Packed) (d : Bool) → w ≡ entryAt s n .packed → d ≡ finePacked name w → d ≡ fineEntry (count s) (entryAt s n)
+    pub entry-packed : not c ≡ false → (w : Packed) (d : Bool) → w ≡ entryOf s n .packed → d ≡ finePacked name w → d ≡ fineEntry (count s) (entryOf s n)
     unfolding fineEntry
     entry-packed u w d i j =
-        let x : isName (entryAt s n .name) ≡ true = ap isName (sym e) ∙ sym f ∙ not-false b t in
-        let y : fineLoose (count s) (entryAt s n .loose) ≡ true = ap₂ fineLoose (sym q) (sym g) ∙ sym h ∙ not-false c u in
-        let z : finePacked (entryAt s n .name) (entryAt s n .packed) ≡ d = ap₂ finePacked (sym e) (sym i) ∙ sym j in
+        let x : isName (entryOf s n .name) ≡ true = ap isName (sym e) ∙ sym f ∙ not-false b t in
+        let y : fineLoose (count s) (entryOf s n .loose) ≡ true = ap₂ fineLoose (sym q) (sym g) ∙ sym h ∙ not-false c u in
+        let z : finePacked (entryOf s n .name) (entryOf s n .packed) ≡ d = ap₂ finePacked (sym e) (sym i) ∙ sym j in
         rw (x, y, z) (sym (and-true d))
+
+-- a name for the test of one entry, so that a search finds the store
+unfoldable pub entryTest : Store → ℕ → Bool
+entryTest s n = fineEntry (count s) (entryAt s n)
+
+module _ (s : Store) (i : ℕ) (n : NameNumber) (b : Bool) (q : n ≡ record { 0 = i }) (f : b ≡ fineEntry (count s) (entryOf s n)) where
+  entry-is : b ≡ entryTest s i
+  unfolding entryTest
+  entry-is = f ∙ ap (λ (n : NameNumber). fineEntry (count s) (entryOf s n)) q
+
+  pub entry-more : below i (entryTest s) ≡ true → b ≡ true → below (i + 1) (entryTest s) ≡ true
+  entry-more h t = loop-more i (entryTest s) b h entry-is t
+
+  pub entry-stop : (m : ℕ) → i < m → m ≡ count s → b ≡ false → false ≡ below (count s) (λ n. fineEntry (count s) (entryAt s n))
+  unfolding entryTest
+  entry-stop m h g t = loop-stop i m (count s) (entryTest s) b h g entry-is t
+
+pub entry-end : (s : Store) (i m : ℕ) → below i (entryTest s) ≡ true → i ≤ m → m ≤ i → m ≡ count s
+    → true ≡ below (count s) (λ n. fineEntry (count s) (entryAt s n))
+unfolding entryTest
+entry-end s i m h a b q = loop-end i m (count s) (entryTest s) h a b q
 
 -- ---- names are apart
 
-module _ (s : Store) (n m : ℕ) (a b : List ℕ) (t : Bool) (p : a ≡ entryAt s n .name) (q : b ≡ entryAt s m .name) (e : t ≡ sameList a b) where
+module _ (s : Store) (n m : ℕ) (x y : NameNumber) (a b : List ℕ) (t : Bool) (f : x ≡ record { 0 = n }) (g : y ≡ record { 0 = m })
+    (p : a ≡ entryOf s x .name) (q : b ≡ entryOf s y .name) (e : t ≡ sameList a b) where
   same-names : apartNames s n m ≡ not t
-  same-names = ap not (ap₂ sameList (sym p) (sym q) ∙ sym e)
+  same-names =
+      ap not (ap₂ (λ (x y : NameNumber). sameList (nameOf s x) (nameOf s y)) (sym f) (sym g) ∙ ap₂ sameList (sym p) (sym q) ∙ sym e)
 
   pub name-more : below m (apartNames s n) ≡ true → t ≡ false → below (m + 1) (apartNames s n) ≡ true
-  name-more h f = below-more m (apartNames s n) h (same-names ∙ ap not f)
+  name-more h u = below-more m (apartNames s n) h (same-names ∙ ap not u)
 
   pub name-stop : m < n → t ≡ true → false ≡ below n (apartNames s n)
-  name-stop h f = sym (below-false n (apartNames s n) m h (same-names ∙ ap not f))
+  name-stop h u = sym (below-false n (apartNames s n) m h (same-names ∙ ap not u))
 
 -- ---- lines
 
-pub line-name : (n : ℕ) (l : Line) → n ≤ l .name .0 → false ≡ fineLine n l
+pub line-name : (n : ℕ) (l : Line) (k : ℕ) → k ≡ l .name .0 → n ≤ k → false ≡ fineLine n l
 unfolding fineLine
-line-name n l h = sym (every-false (lineTests n l) 0 (le-ltb _ _ h))
+line-name n l k e h = sym (every-false (lineTests n l) 0 (le-ltb _ _ (rw e at h)))
 
 pub line-new : (n : ℕ) (l : Line) → l .new .0 ≡ 0 → false ≡ fineLine n l
 unfolding fineLine
 line-new n l e = sym (every-false (lineTests n l) 2 (let f : isId (l .new .0) ≡ false = rw e in f))
 
-pub line-rest : (n : ℕ) (l : Line) → l .name .0 < n → (l .new .0 ≡ 0 → ⊥) → Fits w64 (l .previous .0) → Fits w64 (l .new .0) → Fits w16 (l .committer)
+pub line-rest : (n : ℕ) (l : Line) (k : ℕ) → k ≡ l .name .0 → k < n → (l .new .0 ≡ 0 → ⊥) → Fits w64 (l .previous .0) → Fits w64 (l .new .0) → Fits w16 (l .committer)
     → Fits w16 (l .message) → not (eqb (l .committer) 0) ≡ fineLine n l
 unfolding fineLine
-line-rest n l h g p q c m =
+line-rest n l k e h g p q c m =
     let i : isId (l .new .0) ≡ true = sym (is-id (l .new .0) q) ∙ rw (ne-eqb (l .new .0) 0 g) in
-    rw (lt-ltb _ _ h, lt-ltb _ _ (p .fits), i, lt-ltb _ _ (c .fits), lt-ltb _ _ (m .fits)) (positive (l .committer) ∙ sym (and-true (ltb 0 (l .committer))))
+    rw (lt-ltb _ _ (rw e at h), lt-ltb _ _ (p .fits), i, lt-ltb _ _ (c .fits), lt-ltb _ _ (m .fits)) (positive (l .committer) ∙ sym (and-true (ltb 0 (l .committer))))
 
 -- a name for the test of one line, so that a search finds the store
 unfoldable pub lineTest : Store → ℕ → Bool
@@ -161,39 +188,45 @@ line-end s i m h a b q = loop-end i m (length (s .lines)) (lineTest s) h a b q
 pub parent-is : (i : ℕ) (p : ParentIndex) (j : ℕ) → p ≡ Parent j → ltb j i ≡ fineParent i p
 parent-is i p j e = rw e
 
--- the climb
-pub climb-zero : (k : ℕ) (rows : List Edit) (p : ParentIndex) → k ≡ 0 → (0 ≡ length (climb k rows p)) × (0 ≤ k)
-climb-zero zero rows p e = (refl, omega arith)
-climb-zero (suc k) rows p e = absurd (omega arith)
+-- the climb: a parent's place is smaller, so that from it on every parent is earlier too
+module _ (rows : List Edit) (i : ℕ) (row : Edit) (q : row ≡ rowAt rows i) where
+  pub top-row : row .«parent_index» ≡ NoParent → (0 ≡ length (ancestors rows i)) × (0 ≤ i)
+  top-row e = (sym (ap length (ancestors-none rows i (ap (λ (r : Edit). r .«parent_index») (sym q) ∙ e))), omega arith)
 
-pub climb-none : (k : ℕ) (rows : List Edit) (p : ParentIndex) → (k ≡ 0 → ⊥) → p ≡ NoParent → (0 ≡ length (climb k rows p)) × (0 ≤ k)
-climb-none zero rows p h e = absurd (h refl)
-climb-none (suc k) rows p h e = (rw e, omega arith)
+  module _ (w : Upward (i + 1) rows) (p : ℕ) (e : row .«parent_index» ≡ Parent p) where
+    parent-of : rowAt rows i .«parent_index» ≡ Parent p
+    parent-of = ap (λ (r : Edit). r .«parent_index») (sym q) ∙ e
 
-none-up : (k : ℕ) (rows : List Edit) → 0 ≡ length (climb k rows NoParent)
-none-up zero rows = refl
-none-up (suc k) rows = refl
+    pub parent-before : p < i
+    parent-before = falls rows i (i + 1) w (omega arith) p parent-of
 
-pub climb-past : (k : ℕ) (rows : List Edit) (p : ParentIndex) (j m : ℕ) → (k ≡ 0 → ⊥) → p ≡ Parent j → m ≡ length rows → m ≤ j
-    → (1 ≡ length (climb k rows p)) × (1 ≤ k)
-climb-past zero rows p j m h e q l = absurd (h refl)
-climb-past (suc k) rows p j m h e q l =
-    let g : length rows ≤ j = omega arith in
-    let d : rowAt rows j ≡ noRow = List·getD-eq-default rows noRow g in
-    (rw (e, d) (ap suc (none-up k rows)), omega arith)
+    pub parent-upward : Upward (p + 1) rows
+    parent-upward = let h : p < i = parent-before in record { up = λ k l. w .up k (omega arith) }
 
-pub climb-up : (k : ℕ) (rows : List Edit) (p : ParentIndex) (j m : ℕ) (row : Edit) → (k ≡ 0 → ⊥) → p ≡ Parent j → row ≡ rowAt rows j
-    → (m ≡ length (climb (k - 1) rows (row .«parent_index»))) × (m ≤ k - 1) → (1 + m ≡ length (climb k rows p)) × (1 + m ≤ k)
-climb-up zero rows p j m row h e q f = absurd (h refl)
-climb-up (suc k) rows p j m row h e q f =
-    let d : suc k - 1 ≡ k = omega arith in
-    let g : m ≡ length (climb k rows (rowAt rows j .«parent_index»)) = rw (d, q) at (f .0) in
-    (rw e (let z : 1 + m ≡ suc m = omega arith in z ∙ ap suc g), omega arith)
+    pub one-up : (m : ℕ) → (m ≡ length (ancestors rows p)) × (m ≤ p) → (1 + m ≡ length (ancestors rows i)) × (1 + m ≤ i)
+    one-up m g =
+        let h : p < i = parent-before in
+        let l : m ≤ p = g .1 in
+        let z : 1 + m ≡ suc m = omega arith in
+        (z ∙ ap suc (g .0) ∙ sym (ap length (ancestors-up rows i (i + 1) w (omega arith) p parent-of)), omega arith)
+
+-- the rows that passed have earlier parents, and so has one more whose parent was tested
+pub rows-upward : (n i : ℕ) (rows : List Edit) → below i (fineRow n rows) ≡ true → Upward i rows
+unfolding fineRow
+rows-upward n i rows h = record { up = λ k l. every-at (rowTests n rows k) 5 (below-true i (fineRow n rows) h k l) }
+
+pub upward-more : (rows : List Edit) (i : ℕ) (row : Edit) (b : Bool) → Upward i rows → row ≡ rowAt rows i → b ≡ fineParent i (row .«parent_index»)
+    → not b ≡ false → Upward (i + 1) rows
+upward-more rows i row b w q e t = record {
+  up =
+      further (λ k. fineParent k (rowAt rows k .«parent_index») ≡ true) i (w .up)
+      (ap (λ (r : Edit). fineParent i (r .«parent_index»)) (sym q) ∙ sym e ∙ not-false b t);
+}
 
 module _ (n k i : ℕ) (rows : List Edit) (row : Edit) (q : k ≡ n) (e : row ≡ rowAt rows i) where
-  pub row-name : k ≤ row .update .name .0 → false ≡ fineRow n rows i
+  pub row-name : (j : ℕ) → j ≡ row .update .name .0 → k ≤ j → false ≡ fineRow n rows i
   unfolding fineRow
-  row-name h = sym (every-false (rowTests n rows i) 0 (le-ltb _ _ (rw (e, q) at h)))
+  row-name j f h = sym (every-false (rowTests n rows i) 0 (le-ltb _ _ (rw (f, e, q) at h)))
 
   pub row-deref : row .update .deref ≡ true → false ≡ fineRow n rows i
   unfolding fineRow
@@ -221,75 +254,74 @@ module _ (n k i : ℕ) (rows : List Edit) (row : Edit) (q : k ≡ n) (e : row �
   unfolding fineRow
   row-parent b f t = sym (every-false (rowTests n rows i) 5 (row-parent-is b f ∙ not-true b t))
 
-  row-rest-fits : (v w : OptionTarget) (b c d : Bool) (m : ℕ) → FitsRow (rowAt rows i) → row .update .name .0 < k → row .update .deref ≡ false
+  row-rest-fits : (j : ℕ) (v w : OptionTarget) (b c d : Bool) (m : ℕ) → FitsRow (rowAt rows i) → j ≡ row .update .name .0 → j < k
+      → row .update .deref ≡ false
       → v ≡ previousValue (row .update .change) → b ≡ fineOption k v → not b ≡ false
       → w ≡ newValue (row .update .change) → c ≡ fineOption k w → not c ≡ false
       → d ≡ fineParent i (row .«parent_index») → not d ≡ false
-      → m ≡ length (climb i rows (row .«parent_index»)) → leb m 4 ≡ fineRow n rows i
-  unfolding fineRow ancestors
-  row-rest-fits v w b c d m f h t fv gv tv fw gw tw fd td g =
-      let x0 : ltb (nameIn (rowAt rows i) .0) n ≡ true = lt-ltb _ _ (rw (e, q) at h) in
+      → m ≡ length (ancestors rows i) → leb m 4 ≡ fineRow n rows i
+  unfolding fineRow
+  row-rest-fits j v w b c d m f p h t fv gv tv fw gw tw fd td g =
+      let x0 : ltb (nameIn (rowAt rows i) .0) n ≡ true = lt-ltb _ _ (rw (p, e, q) at h) in
       let x1 : rowAt rows i .update .deref ≡ false = ap (λ (r : Edit). r .update .deref) (sym e) ∙ t in
       let x2 : ltb (messageOf (changeIn (rowAt rows i))) (2 ^ 16) ≡ true = lt-ltb _ _ (f .message) in
       let x3 : fineOption n (previousValue (changeIn (rowAt rows i))) ≡ true = row-previous-is v b fv gv ∙ not-false b tv in
       let x4 : fineOption n (newValue (changeIn (rowAt rows i))) ≡ true = row-new-is w c fw gw ∙ not-false c tw in
       let x5 : fineParent i (rowAt rows i .«parent_index») ≡ true = row-parent-is d fd ∙ not-false d td in
-      let x6 : length (climb i rows (rowAt rows i .«parent_index»)) ≡ m = ap (λ (r : Edit). length (climb i rows (r .«parent_index»))) (sym e) ∙ sym g in
       let x7 : ltb (rowAt rows i .«leaf_referent_previous_oid» .0) (2 ^ 64) ≡ true = lt-ltb _ _ (f .leaf) in
-      rw (x0, x1, x2, x3, x4, x5, x6, x7) (sym (and-true (leb m 4)))
+      rw (x0, x1, x2, x3, x4, x5, ← g, x7) (sym (and-true (leb m 4)))
 
-pub row-rest : (r : List ℕ) (k i : ℕ) (row : Edit) (v w : OptionTarget) (b c d : Bool) (m : ℕ) → Laid r → i < length (rowsIn (view r .prepared))
+pub row-rest : (r : List ℕ) (k i j : ℕ) (row : Edit) (v w : OptionTarget) (b c d : Bool) (m : ℕ) → Laid r → i < length (rowsIn (view r .prepared))
     → k ≡ count (view r) → row ≡ rowAt (rowsIn (view r .prepared)) i
-    → row .update .name .0 < k → row .update .deref ≡ false
+    → j ≡ row .update .name .0 → j < k → row .update .deref ≡ false
     → v ≡ previousValue (row .update .change) → b ≡ fineOption k v → not b ≡ false
     → w ≡ newValue (row .update .change) → c ≡ fineOption k w → not c ≡ false
     → d ≡ fineParent i (row .«parent_index») → not d ≡ false
-    → (m ≡ length (climb i (rowsIn (view r .prepared)) (row .«parent_index»))) × (m ≤ i)
+    → (m ≡ length (ancestors (rowsIn (view r .prepared)) i)) × (m ≤ i)
     → leb m 4 ≡ fineRow (count (view r)) (rowsIn (view r .prepared)) i
-row-rest r k i row v w b c d m l z q e h t fv gv tv fw gw tw fd td g =
-    row-rest-fits (count (view r)) k i (rowsIn (view r .prepared)) row q e v w b c d m (laid-image r l .1 .row i z) h t fv gv tv fw gw tw fd td (g .0)
+row-rest r k i j row v w b c d m l z q e p h t fv gv tv fw gw tw fd td g =
+    row-rest-fits (count (view r)) k i (rowsIn (view r .prepared)) row q e j v w b c d m (laid-image r l .1 .row i z) p h t fv gv tv fw gw tw fd td (g .0)
 
-pub name-of-row : (row : Edit) (rows : List Edit) (i : ℕ) → row ≡ rowAt rows i → row .update .name .0 ≡ nameIn (rowAt rows i) .0
-name-of-row row rows i e = ap (λ (r : Edit). r .update .name .0) e
+pub name-of-row : (row : Edit) (rows : List Edit) (i : ℕ) → row ≡ rowAt rows i → row .update .name ≡ nameIn (rowAt rows i)
+name-of-row row rows i e = ap nameIn e
 
 -- rows are apart
-module _ (rows : List Edit) (i j a b : ℕ) (p : a ≡ nameIn (rowAt rows i) .0) (q : b ≡ nameIn (rowAt rows j) .0) where
-  same-rows : apartRows rows i j ≡ not (eqb a b)
-  same-rows = ap not (ap₂ eqb (sym p) (sym q))
+module _ (rows : List Edit) (i j : ℕ) (a b : NameNumber) (t : Bool) (p : a ≡ nameIn (rowAt rows i)) (q : b ≡ nameIn (rowAt rows j))
+    (e : t ≡ sameName a b) where
+  same-rows : apartRows rows i j ≡ not t
+  same-rows = ap not (ap₂ sameName (sym p) (sym q) ∙ sym e)
 
-  pub apart-more : below j (apartRows rows i) ≡ true → (a ≡ b → ⊥) → below (j + 1) (apartRows rows i) ≡ true
-  apart-more h d = below-more j (apartRows rows i) h (same-rows ∙ ap not (ne-eqb a b d))
+  pub apart-more : below j (apartRows rows i) ≡ true → t ≡ false → below (j + 1) (apartRows rows i) ≡ true
+  apart-more h d = below-more j (apartRows rows i) h (same-rows ∙ ap not d)
 
-  pub apart-stop : j < i → a ≡ b → false ≡ below i (apartRows rows i)
-  apart-stop h e = sym (below-false i (apartRows rows i) j h (same-rows ∙ ap not (eq-eqb a b e)))
+  pub apart-stop : j < i → t ≡ true → false ≡ below i (apartRows rows i)
+  apart-stop h d = sym (below-false i (apartRows rows i) j h (same-rows ∙ ap not d))
 
--- ---- all of it: the bounds hold of any region that is laid out so
+-- ---- a group of rules: its bound holds of any region that is laid out so, then one test after the other
 
-last-test : (a b c d e f g h z : Bool) → a ≡ true → b ≡ true → c ≡ true → d ≡ true → e ≡ true → f ≡ true → g ≡ true → z ≡ h
-    → z ≡ every (a ∷ b ∷ c ∷ d ∷ e ∷ f ∷ g ∷ h ∷ [])
-last-test a b c d e f g h z pa pb pc pd pe pf pg p = rw (pa, pb, pc, pd, pe, pf, pg) (p ∙ sym (and-true h))
+one-more : (a b z : Bool) → a ≡ true → z ≡ b → z ≡ every (a ∷ b ∷ [])
+one-more a b z p e = rw p (e ∙ sym (and-true b))
 
-pub sound-entries : (s : Store) (b : Bool) → b ≡ below (count s) (λ n. fineEntry (count s) (entryAt s n)) → not b ≡ true → false ≡ every (take 8 (tests s))
-sound-entries s b e t = sym (every-false (take 8 (tests s)) 1 (sym e ∙ not-true b t))
+module _ (r : List ℕ) (l : Laid r) where
+  module _ (a : Bool) (e : a ≡ below (count (view r)) (λ n. fineEntry (count (view r)) (entryAt (view r) n))) where
+    pub names-entries : not a ≡ true → false ≡ fineNames (view r)
+    unfolding fineNames
+    names-entries t = sym (every-false (nameRules (view r)) 1 (sym e ∙ not-true a t))
 
-pub sound-names : (s : Store) (b : Bool) → b ≡ below (count s) (λ n. below n (apartNames s n)) → not b ≡ true → false ≡ every (take 8 (tests s))
-sound-names s b e t = sym (every-false (take 8 (tests s)) 2 (sym e ∙ not-true b t))
+    pub names-rest : (z : Bool) → not a ≡ false → z ≡ below (count (view r)) (λ n. below n (apartNames (view r) n)) → z ≡ fineNames (view r)
+    unfolding fineNames
+    names-rest z t f = rw (le-leb _ _ (l .names)) (one-more _ _ z (sym e ∙ not-false a t) f)
 
-pub sound-lines : (s : Store) (b : Bool) → b ≡ below (length (s .lines)) (λ i. fineLine (count s) (getD (s .lines) i noLine)) → not b ≡ true
-    → false ≡ every (take 8 (tests s))
-sound-lines s b e t = sym (every-false (take 8 (tests s)) 4 (sym e ∙ not-true b t))
+  pub lines-rest : (z : Bool) → z ≡ below (length (view r .lines)) (λ i. fineLine (count (view r)) (getD (view r .lines) i noLine)) → z ≡ fineLines (view r)
+  unfolding fineLines
+  lines-rest z f = one-more _ _ z (le-leb _ _ (l .lines)) f
 
-pub sound-rows : (s : Store) (b : Bool) → b ≡ below (length (rowsIn (s .prepared))) (fineRow (count s) (rowsIn (s .prepared))) → not b ≡ true
-    → false ≡ every (take 8 (tests s))
-sound-rows s b e t = sym (every-false (take 8 (tests s)) 6 (sym e ∙ not-true b t))
+  module _ (a : Bool) (e : a ≡ below (length (rowsIn (view r .prepared))) (fineRow (count (view r)) (rowsIn (view r .prepared)))) where
+    pub rows-tests : not a ≡ true → false ≡ fineRows (view r)
+    unfolding fineRows
+    rows-tests t = sym (every-false (rowRules (view r)) 1 (sym e ∙ not-true a t))
 
-pub sound-rest : (r : List ℕ) (a b c d z : Bool) → Laid r
-    → a ≡ below (count (view r)) (λ n. fineEntry (count (view r)) (entryAt (view r) n)) → not a ≡ false
-    → b ≡ below (count (view r)) (λ n. below n (apartNames (view r) n)) → not b ≡ false
-    → c ≡ below (length (view r .lines)) (λ i. fineLine (count (view r)) (getD (view r .lines) i noLine)) → not c ≡ false
-    → d ≡ below (length (rowsIn (view r .prepared))) (fineRow (count (view r)) (rowsIn (view r .prepared))) → not d ≡ false
-    → z ≡ below (length (rowsIn (view r .prepared))) (λ i. below i (apartRows (rowsIn (view r .prepared)) i))
-    → z ≡ every (take 8 (tests (view r)))
-sound-rest r a b c d z l ea ta eb tb ec tc ed td ez =
-    last-test _ _ _ _ _ _ _ _ z (le-leb _ _ (l .names)) (sym ea ∙ not-false a ta) (sym eb ∙ not-false b tb) (le-leb _ _ (l .lines)) (sym ec ∙ not-false c tc)
-    (le-leb _ _ (l .rows)) (sym ed ∙ not-false d td) ez
+    pub rows-rest : (z : Bool) → not a ≡ false → z ≡ below (length (rowsIn (view r .prepared))) (λ i. below i (apartRows (rowsIn (view r .prepared)) i))
+        → z ≡ fineRows (view r)
+    unfolding fineRows
+    rows-rest z t f = rw (le-leb _ _ (l .rows)) (one-more _ _ z (sym e ∙ not-false a t) f)

@@ -1,17 +1,21 @@
 // The rules of a store, tested through the region's accessors: names and values, lines, rows.
 ghost use mathlib.Core.Path.{_≡_};
-ghost use Prim.Native.Nat.{_<_, _≤_};
-ghost use lib.ListN.{length, getD, take};
-ghost use Rattle.model.specs.Basic.{every, below};
-ghost use Rattle.model.specs.Store.{count, entryAt, rowsIn, noLine};
-ghost use Rattle.model.specs.Rows.{climb, nameIn, rowAt};
-ghost use Rattle.model.specs.Fine.{fineTarget, fineOption, fineLoose, finePacked, fineEntry, fineLine, fineParent, fineRow, apartNames, apartRows, tests};
+ghost use Prim.Native.Nat.{_+_, _<_, _≤_};
+ghost use lib.ListN.{length, getD};
+ghost use Rattle.model.specs.Basic.{below};
+ghost use Rattle.model.specs.Store.{count, entryAt, entryOf, rowsIn, noLine};
+ghost use Rattle.model.specs.Rows.{ancestors, nameIn, rowAt};
+ghost use Rattle.model.specs.Fine.{fineTarget, fineOption, fineLoose, finePacked, fineEntry, fineLine, fineParent, fineRow, apartNames, apartRows};
+ghost use Rattle.model.specs.Fine.{Upward, fineNames, fineLines, fineRows};
 ghost use Rattle.region.specs.Region.{view, Laid};
 use model::Line;
 use model::Loose;
 use model::Packed;
+use target::NameNumber;
+use target::ObjectNumber;
 use target::OptionTarget;
 use target::Target;
+use transaction::Edit;
 use transaction::ParentIndex;
 
 // ---- names and values
@@ -20,8 +24,8 @@ pub fn target_ok(n: usize, t: Target) -> bool
     ensures { λ r. ⌜ r ≡ fineTarget n t ⌝ }
 {
     match t {
-        Target::Object(oid) => oid.0 != 0,
-        Target::Symbolic(name) => (name.0 as usize) < n,
+        Target::Object(oid) => oid.0 != ObjectNumber::NULL,
+        Target::Symbolic(name) => name.place() < n,
     }
 }
 
@@ -50,7 +54,7 @@ fn packed_ok(name: &[u8], v: Packed) -> bool
     match v {
         Packed::None => true,
         Packed::Object(oid) => {
-            if oid.0 == 0 {
+            if oid.0 == ObjectNumber::NULL {
                 return false;
             }
             names::is_packable(name)
@@ -58,10 +62,10 @@ fn packed_ok(name: &[u8], v: Packed) -> bool
     }
 }
 
-fn entry_ok(region: &[u8], n: usize) -> bool
+fn entry_ok(region: &[u8], n: NameNumber) -> bool
     requires { ⌜ Laid (now region) ⌝ }
-    requires { ⌜ n < count (view (now region)) ⌝ }
-    ensures { λ r. ⌜ r ≡ fineEntry (count (view (now (region .entry)))) (entryAt (view (now (region .entry))) n) ⌝ }
+    requires { ⌜ n .0 < count (view (now region)) ⌝ }
+    ensures { λ r. ⌜ r ≡ fineEntry (count (view (now (region .entry)))) (entryOf (view (now (region .entry))) n) ⌝ }
 {
     let name = region::name_at(region, n);
     if !names::is_name(name) {
@@ -81,7 +85,7 @@ fn entries_ok(region: &[u8]) -> bool
     let count = region::count_names(region);
     let mut n: usize = 0;
     while n < count {
-        let ok = entry_ok(region, n);
+        let ok = entry_ok(region, NameNumber::at(n));
         if ok {
             n += 1;
         } else {
@@ -97,10 +101,10 @@ fn name_apart(region: &[u8], n: usize) -> bool
     requires { ⌜ n < count (view (now region)) ⌝ }
     ensures { λ r. ⌜ r ≡ below n (apartNames (view (now (region .entry))) n) ⌝ }
 {
-    let name = region::name_at(region, n);
+    let name = region::name_at(region, NameNumber::at(n));
     let mut m: usize = 0;
     while m < n {
-        let same = word::same(name, region::name_at(region, m));
+        let same = word::same(name, region::name_at(region, NameNumber::at(m)));
         if same {
             return false;
         } else {
@@ -133,11 +137,11 @@ fn line_ok(n: usize, l: Line) -> bool
     ensures { λ r. ⌜ r ≡ fineLine n l ⌝ }
 {
     let name = l.name;
-    if (name.0 as usize) >= n {
+    if name.place() >= n {
         return false;
     }
     let new = l.new;
-    if new.0 == 0 {
+    if new.0 == ObjectNumber::NULL {
         return false;
     }
     l.committer != 0
@@ -173,36 +177,32 @@ fn parent_ok(i: usize, parent: ParentIndex) -> bool
     }
 }
 
-// How many ancestors are met on the climb from a parent, in at most `fuel` steps. Each step has one less.
-fn climb_length(region: &[u8], fuel: usize, parent: ParentIndex) -> usize
+// How many ancestors the row at place i has: the climb from row to parent ends, since each parent's place is smaller.
+fn count_ancestors(region: &[u8], i: usize) -> usize
     requires { ⌜ Laid (now region) ⌝ }
-    requires { ⌜ fuel ≤ 160 ⌝ }
-    ensures { λ r. ⌜ (r ≡ length (climb fuel (rowsIn (view (now (region .entry)) .prepared)) parent)) × (r ≤ fuel) ⌝ }
+    requires { ⌜ i < length (rowsIn (view (now region) .prepared)) ⌝ }
+    requires { ⌜ Upward (i + 1) (rowsIn (view (now region) .prepared)) ⌝ }
+    ensures { λ r. ⌜ (r ≡ length (ancestors (rowsIn (view (now (region .entry)) .prepared)) i)) × (r ≤ i) ⌝ }
 {
-    if fuel == 0 {
-        return 0;
-    }
+    let row = region::row_at(region, i);
+    let parent = row.parent_index;
     let ParentIndex::Parent(j) = parent else {
         return 0;
     };
-    if j >= region::count_rows(region) {
-        return 1;
-    }
-    let row = region::row_at(region, j);
-    let next = row.parent_index;
-    1 + climb_length(region, fuel - 1, next)
+    1 + count_ancestors(region, j)
 }
 
 fn row_ok(region: &[u8], i: usize) -> bool
     requires { ⌜ Laid (now region) ⌝ }
     requires { ⌜ i < length (rowsIn (view (now region) .prepared)) ⌝ }
+    requires { ⌜ Upward i (rowsIn (view (now region) .prepared)) ⌝ }
     ensures { λ r. ⌜ r ≡ fineRow (count (view (now (region .entry)))) (rowsIn (view (now (region .entry)) .prepared)) i ⌝ }
 {
     let count = region::count_names(region);
     let row = region::row_at(region, i);
     let update = row.update;
     let name = update.name;
-    if (name.0 as usize) >= count {
+    if name.place() >= count {
         return false;
     }
     if update.deref {
@@ -219,7 +219,7 @@ fn row_ok(region: &[u8], i: usize) -> bool
     if !parent_ok(i, parent) {
         return false;
     }
-    climb_length(region, i, parent) <= 4
+    count_ancestors(region, i) <= Edit::ANCESTORS
 }
 
 fn rows_ok(region: &[u8]) -> bool
@@ -248,8 +248,8 @@ fn row_apart(region: &[u8], i: usize) -> bool
     let name = row_name(region, i);
     let mut j: usize = 0;
     while j < i {
-        let other = row_name(region, j);
-        if name == other {
+        let same = name.eq(row_name(region, j));
+        if same {
             return false;
         } else {
             j += 1;
@@ -258,15 +258,14 @@ fn row_apart(region: &[u8], i: usize) -> bool
     true
 }
 
-fn row_name(region: &[u8], i: usize) -> u16
+fn row_name(region: &[u8], i: usize) -> NameNumber
     requires { ⌜ Laid (now region) ⌝ }
     requires { ⌜ i < length (rowsIn (view (now region) .prepared)) ⌝ }
-    ensures { λ r. ⌜ r ≡ nameIn (rowAt (rowsIn (view (now (region .entry)) .prepared)) i) .0 ⌝ }
+    ensures { λ r. ⌜ r ≡ nameIn (rowAt (rowsIn (view (now (region .entry)) .prepared)) i) ⌝ }
 {
     let row = region::row_at(region, i);
     let update = row.update;
-    let name = update.name;
-    name.0
+    update.name
 }
 
 fn rows_apart(region: &[u8]) -> bool
@@ -286,20 +285,29 @@ fn rows_apart(region: &[u8]) -> bool
     true
 }
 
-// Names, values, lines and rows obey the rules; locks and room are the next layer's.
-pub fn is_sound(region: &[u8]) -> bool
+// ---- the rules in their groups; locks and room are crate kept's
+
+pub fn names_fine(region: &[u8]) -> bool
     requires { ⌜ Laid (now region) ⌝ }
-    ensures { λ r. ⌜ r ≡ every (take 8 (tests (view (now (region .entry))))) ⌝ }
+    ensures { λ r. ⌜ r ≡ fineNames (view (now (region .entry))) ⌝ }
 {
     if !entries_ok(region) {
         return false;
     }
-    if !names_apart(region) {
-        return false;
-    }
-    if !lines_ok(region) {
-        return false;
-    }
+    names_apart(region)
+}
+
+pub fn lines_fine(region: &[u8]) -> bool
+    requires { ⌜ Laid (now region) ⌝ }
+    ensures { λ r. ⌜ r ≡ fineLines (view (now (region .entry))) ⌝ }
+{
+    lines_ok(region)
+}
+
+pub fn rows_fine(region: &[u8]) -> bool
+    requires { ⌜ Laid (now region) ⌝ }
+    ensures { λ r. ⌜ r ≡ fineRows (view (now (region .entry))) ⌝ }
+{
     if !rows_ok(region) {
         return false;
     }

@@ -419,6 +419,8 @@ pub struct Edit {
 impl Edit {
     // A list has up to 32 edits, and each gives at most four children.
     pub const LIMIT: usize = 160;
+    // So no row has more than four ancestors.
+    pub const ANCESTORS: usize = 4;
 
     // A row as an edit begins: no parent, no leaf-previous.
     pub fn new(update: RefEdit) -> Edit

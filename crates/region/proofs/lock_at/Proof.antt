@@ -1,7 +1,13 @@
 use borrow.Author.Needs.{needs}
-use Rattle.region.proofs.ReadLaws.{lock-missing, lock-found}
+use Rattle.region.proofs.ReadLaws.{lock-found, lock-missing}
 use Rattle.region.proofs.lock_at.Statement.{statement}
 use Rattle.region.proofs.lock_at.Tie as tie
+
+cast-a : tie.Need-cast-a
+cast-a c = search needs
+
+mul-a : tie.Need-mul-a
+mul-a c = search needs
 
 add-a : tie.Need-add-a
 add-a c = search needs
@@ -37,6 +43,8 @@ pub lock-at-spec : {M : Type 1} → statement M
 lock-at-spec =
     tie.close
     (tie.spec
+    cast-a
+    mul-a
     add-a
     add-e
     sub-get-lock

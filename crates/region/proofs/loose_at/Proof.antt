@@ -1,7 +1,10 @@
 use borrow.Author.Needs.{needs}
-use Rattle.region.proofs.ReadLaws.{loose-missing, loose-found}
+use Rattle.region.proofs.ReadLaws.{loose-found, loose-missing}
 use Rattle.region.proofs.loose_at.Statement.{statement}
 use Rattle.region.proofs.loose_at.Tie as tie
+
+cast-a : tie.Need-cast-a
+cast-a c = search needs
 
 mul-a : tie.Need-mul-a
 mul-a c = search needs
@@ -40,6 +43,7 @@ pub loose-at-spec : {M : Type 1} → statement M
 loose-at-spec =
     tie.close
     (tie.spec
+    cast-a
     mul-a
     add-a
     add-e

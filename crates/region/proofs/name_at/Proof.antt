@@ -1,7 +1,10 @@
 use borrow.Author.Needs.{needs}
-use Rattle.region.proofs.ReadLaws.{name-fits, name-end-fits, name-end, name-is}
+use Rattle.region.proofs.ReadLaws.{name-end, name-end-fits, name-fits, name-is}
 use Rattle.region.proofs.name_at.Statement.{statement}
 use Rattle.region.proofs.name_at.Tie as tie
+
+cast-a : tie.Need-cast-a
+cast-a c = search needs
 
 mul-a : tie.Need-mul-a
 mul-a c = search needs
@@ -37,6 +40,7 @@ pub name-at-spec : {M : Type 1} → statement M
 name-at-spec =
     tie.close
     (tie.spec
+    cast-a
     mul-a
     add-a
     add-b

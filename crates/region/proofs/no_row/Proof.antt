@@ -9,6 +9,9 @@ default-requires c κs = search needs
 null-requires : tie.Need-null-requires
 null-requires c κs = search needs
 
+at-requires : tie.Need-at-requires
+at-requires c κs = search needs
+
 new-requires : tie.Need-new-requires
 new-requires c κs = search needs
 
@@ -20,4 +23,5 @@ returns c = search no-row-is
 
 pub no-row-spec : {M : Type 1} → statement M
 no-row-spec =
-    tie.close (tie.spec default-requires null-requires new-requires new-requires-2 returns)
+    tie.close
+    (tie.spec default-requires null-requires at-requires new-requires new-requires-2 returns)

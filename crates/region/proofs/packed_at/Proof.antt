@@ -3,6 +3,9 @@ use Rattle.region.proofs.ReadLaws.{packed-read}
 use Rattle.region.proofs.packed_at.Statement.{statement}
 use Rattle.region.proofs.packed_at.Tie as tie
 
+cast-a : tie.Need-cast-a
+cast-a c = search needs
+
 mul-a : tie.Need-mul-a
 mul-a c = search needs
 
@@ -31,6 +34,7 @@ pub packed-at-spec : {M : Type 1} → statement M
 packed-at-spec =
     tie.close
     (tie.spec
+    cast-a
     mul-a
     add-a
     add-e

@@ -1,19 +1,13 @@
 use borrow.Author.Needs.{needs}
-use Rattle.region.proofs.ReadLaws.{packed-lock-missing, packed-lock-found}
+use Rattle.region.proofs.ReadLaws.{packed-lock-found, packed-lock-missing}
 use Rattle.region.proofs.packed_lock.Statement.{statement}
 use Rattle.region.proofs.packed_lock.Tie as tie
 
-sub-get-lock : tie.Need-sub-get-lock
-sub-get-lock c = search needs
+get-at-requires : tie.Need-get-at-requires
+get-at-requires c κs = search needs
 
-part-get-lock-start : tie.Need-part-get-lock-start
-part-get-lock-start c = search needs
-
-part-get-lock-end : tie.Need-part-get-lock-end
-part-get-lock-end c = search needs
-
-get-lock-requires : tie.Need-get-lock-requires
-get-lock-requires c κs = search needs
+lock-from-requires : tie.Need-lock-from-requires
+lock-from-requires c κs = search needs
 
 enum-known-l : tie.Need-enum-known-l
 enum-known-l c = search needs
@@ -30,12 +24,4 @@ returns-2 c = search packed-lock-found
 pub packed-lock-spec : {M : Type 1} → statement M
 packed-lock-spec =
     tie.close
-    (tie.spec
-    sub-get-lock
-    part-get-lock-start
-    part-get-lock-end
-    get-lock-requires
-    enum-known-l
-    enum-told
-    returns
-    returns-2)
+    (tie.spec get-at-requires lock-from-requires enum-known-l enum-told returns returns-2)

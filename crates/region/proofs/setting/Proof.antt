@@ -1,19 +1,10 @@
 use borrow.Author.Needs.{needs}
-use Rattle.region.proofs.ReadLaws.{setting-normal, setting-always, setting-else}
+use Rattle.region.proofs.ReadLaws.{setting-always, setting-else, setting-normal}
 use Rattle.region.proofs.setting.Statement.{statement}
 use Rattle.region.proofs.setting.Tie as tie
 
-sub-get : tie.Need-sub-get
-sub-get c = search needs
-
-part-get-start : tie.Need-part-get-start
-part-get-start c = search needs
-
-part-get-end : tie.Need-part-get-end
-part-get-end c = search needs
-
-get-requires : tie.Need-get-requires
-get-requires c κs = search needs
+get-at-requires : tie.Need-get-at-requires
+get-at-requires c κs = search needs
 
 returns : tie.Need-returns
 returns c = search setting-normal
@@ -25,6 +16,4 @@ returns-3 : tie.Need-returns-3
 returns-3 c = search setting-else
 
 pub setting-spec : {M : Type 1} → statement M
-setting-spec =
-    tie.close
-    (tie.spec sub-get part-get-start part-get-end get-requires returns returns-2 returns-3)
+setting-spec = tie.close (tie.spec get-at-requires returns returns-2 returns-3)

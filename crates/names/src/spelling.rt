@@ -1,0 +1,66 @@
+// Byte strings compared: one begins or ends another, stands in it, or stands before it in order.
+// Every answer is that of a definition of crates/model/specs/Names.antt, or of specs/Ends.antt.
+ghost use mathlib.Core.Path.{_≡_};
+ghost use Rattle.model.specs.Names.{begins, within, before};
+ghost use Rattle.names.specs.Ends.{ends};
+
+// The name begins with the prefix.
+pub fn begins_with(name: &[u8], prefix: &[u8]) -> bool
+    ensures { λ r. ⌜ r ≡ begins (now (prefix .entry)) (now (name .entry)) ⌝ }
+{
+    let mut i: usize = 0;
+    while i < prefix.len() {
+        if name.len() <= i {
+            return false;
+        }
+        if prefix[i] != name[i] {
+            return false;
+        }
+        i += 1;
+    }
+    true
+}
+
+// The name ends with the suffix.
+pub fn ends_with(name: &[u8], suffix: &[u8]) -> bool
+    ensures { λ r. ⌜ r ≡ ends (now (suffix .entry)) (now (name .entry)) ⌝ }
+{
+    if name.len() < suffix.len() {
+        return false;
+    }
+    let start = name.len() - suffix.len();
+    word::same(suffix, &name[start..])
+}
+
+// The part stands somewhere in the name.
+pub fn contains(name: &[u8], part: &[u8]) -> bool
+    ensures { λ r. ⌜ r ≡ within (now (part .entry)) (now (name .entry)) ⌝ }
+{
+    let mut i: usize = 0;
+    loop {
+        if begins_with(&name[i..], part) {
+            return true;
+        }
+        if i == name.len() {
+            return false;
+        }
+        i += 1;
+    }
+}
+
+// Byte order: the first stands before the second.
+pub fn is_before(a: &[u8], b: &[u8]) -> bool
+    ensures { λ r. ⌜ r ≡ before (now (a .entry)) (now (b .entry)) ⌝ }
+{
+    let mut i: usize = 0;
+    while i < b.len() {
+        if a.len() <= i {
+            return true;
+        }
+        if a[i] != b[i] {
+            return a[i] < b[i];
+        }
+        i += 1;
+    }
+    false
+}
