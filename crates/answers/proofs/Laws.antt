@@ -1,41 +1,45 @@
 -- What the places of a row are, and what the loop over places keeps. Assumes nothing.
 use mathlib.Core.Path.{_≡_, refl, sym, ap, _∙_}
 use mathlib.Core.List.{List, [], _∷_, _++_, append-assoc, append-nil}
-use Prim.Native.Nat.{ℕ, _+_, _-_, _*_, _<_, _≤_}
+use Prim.Native.Nat.{ℕ, _+_, _*_, _<_, _≤_}
 use native.Mathlib.Numerals.{add-one}
 use native.Mathlib.Omega.{arith}
 use lib.ListN.{length, take, drop, getD, length-append}
 use lib.Seq.{take-at, take-suc, take-all, length-take-le}
 use Rattle.word.specs.Be.{be}
+use Rattle.word.specs.Cut.{put}
 use Rattle.word.proofs.Be.{length-be}
-use Rattle.model.specs.Basic.{collect}
-use Rattle.target.specs.declared.OptionTarget.{OptionTarget}
-use Rattle.target.specs.Fields.{targetByte, targetNumber}
-use Rattle.transaction.specs.declared.Change.{Change}
 use Rattle.transaction.specs.declared.ParentIndex.{ParentIndex}
 use Rattle.transaction.specs.declared.ParentIndex.the-variants.{NoParent, Parent}
-use Rattle.transaction.specs.Change.{newValue, previousValue, expectedOf, logOf, forceOf, messageOf}
-use Rattle.transaction.specs.Fields.{changeByte, refLogByte, previousByte}
 use Rattle.transaction.specs.declared.Edit.{Edit}
-use Rattle.model.specs.Numbers.{optionPlaces, parentPlaces, rowPlaces, flag}
-use Rattle.answers.specs.declared.RowVerdict.{RowVerdict}
-use Rattle.answers.specs.declared.RowVerdict.the-variants.{Row, Refused}
-use Rattle.answers.specs.Answers.{recordOf, padded, rowAnswerBy, parentFlag, parentPlace}
+use Rattle.model.specs.Basic.{collect}
+use Rattle.model.specs.Numbers.{Answer, answer, parentPlaces, rowPlaces}
+use Rattle.slots.specs.Row.{rowNumbers, parentFlag, parentPlace}
+use Rattle.answers.specs.Answers.{recordOf, padded, answerBy}
+
+-- ---- a row answers the numbers of its slot
 
 parents : (p : ParentIndex) → parentPlaces p ≡ parentFlag p ∷ parentPlace p ∷ []
 parents NoParent = refl
 parents (Parent j) = refl
 
-pub row-is : (n leaf : ℕ) (e : Change) (up : ParentIndex) (p q : OptionTarget) (k l f m x a b c d h j : ℕ)
-    → p ≡ previousValue e → q ≡ newValue e → k ≡ changeByte e → l ≡ refLogByte (logOf e) → f ≡ flag (forceOf e)
-    → m ≡ messageOf e → x ≡ previousByte (expectedOf e) → a ≡ targetByte p → b ≡ targetNumber p → c ≡ targetByte q
-    → d ≡ targetNumber q → h ≡ parentFlag up → j ≡ parentPlace up
-    → n ∷ k ∷ l ∷ f ∷ m ∷ x ∷ a ∷ b ∷ c ∷ d ∷ h ∷ j ∷ leaf ∷ 0 ∷ 0 ∷ 0 ∷ []
-    ≡ padded
-    (n ∷ changeByte e ∷ refLogByte (logOf e) ∷ flag (forceOf e) ∷ messageOf e ∷ previousByte (expectedOf e)
-    ∷ optionPlaces (previousValue e) ++ optionPlaces (newValue e) ++ parentPlaces up ++ (leaf ∷ []))
-row-is n leaf e up p q k l f m x a b c d h j ep eq ek el ef em ex ea eb ec ed eh ej =
-    simp (parents up, ek, el, ef, em, ex, ea, eb, ec, ed, eh, ej, ep, eq)
+-- thirteen of them, and three zeros
+sixteen : List ℕ → List ℕ
+sixteen p =
+    getD p 0 0 ∷ getD p 1 0 ∷ getD p 2 0 ∷ getD p 3 0 ∷ getD p 4 0 ∷ getD p 5 0 ∷ getD p 6 0 ∷ getD p 7 0 ∷ getD p 8 0 ∷ getD p 9 0
+    ∷ getD p 10 0 ∷ getD p 11 0 ∷ getD p 12 0 ∷ 0 ∷ 0 ∷ 0 ∷ []
+
+pub row-is : (r : Edit) (p : List ℕ) → p ≡ rowNumbers r
+    → getD p 0 0 ∷ getD p 1 0 ∷ getD p 2 0 ∷ getD p 3 0 ∷ getD p 4 0 ∷ getD p 5 0 ∷ getD p 6 0 ∷ getD p 7 0 ∷ getD p 8 0 ∷ getD p 9 0
+    ∷ getD p 10 0 ∷ getD p 11 0 ∷ getD p 12 0 ∷ 0 ∷ 0 ∷ 0 ∷ [] ≡ padded (rowPlaces r)
+unfolding sixteen
+row-is r p e = ap sixteen e ∙ simp (parents (r .«parent_index»))
+
+pub row-answer : (r : Edit) (ps : List ℕ) → ps ≡ padded (rowPlaces r) → answerBy (record { number = 0; places = ps }) ≡ answer 0 (rowPlaces r)
+row-answer r ps e = ap done e
+  where
+    done : List ℕ → Answer
+    done ps = record { number = 0; places = ps }
 
 -- ---- the loop over places: the first i stand in the first i * 8 bytes
 
@@ -44,33 +48,24 @@ collect-append f [] ys = refl
 collect-append f (x ∷ xs) ys = simp (collect-append f xs ys, append-assoc)
 
 module _ (s ps : List ℕ) (i : ℕ) (l : length s ≡ 128) (m : length ps ≡ 16) (e : take (i * 8) s ≡ collect (be 8) (take i ps)) where
-  one-more : (v : List ℕ) → i < 16 → v ≡ be 8 (getD ps i 0) → take (i * 8) s ++ v ≡ collect (be 8) (take (i + 1) ps)
-  one-more v h w =
-      ap (λ (p : List ℕ). p ++ v) e
-      ∙ ap (λ (p : List ℕ). collect (be 8) (take i ps) ++ p) (w ∙ sym (append-nil (be 8 (getD ps i 0))))
+  one-more : i < 16 → take (i * 8) s ++ be 8 (getD ps i 0) ≡ collect (be 8) (take (i + 1) ps)
+  one-more h =
+      ap (λ (p : List ℕ). p ++ be 8 (getD ps i 0)) e
+      ∙ ap (λ (p : List ℕ). collect (be 8) (take i ps) ++ p) (sym (append-nil (be 8 (getD ps i 0))))
       ∙ sym (collect-append (be 8) (take i ps) (getD ps i 0 ∷ []))
       ∙ ap (collect (be 8)) (sym (take-suc ps i 0 (omega arith)))
       ∙ ap (λ (n : ℕ). collect (be 8) (take n ps)) (sym (add-one i))
 
-  pub turn : (v : List ℕ) → i < 16 → v ≡ be 8 (getD ps i 0)
-      → take ((i + 1) * 8) (take (i * 8) s ++ (v ++ drop (i * 8 + 8 - i * 8) (drop (i * 8) s))) ≡ collect (be 8) (take (i + 1) ps)
-  turn v h w =
-      let n : length v ≡ 8 = ap length w ∙ length-be 8 (getD ps i 0) in
-      let t : length (take (i * 8) s) ≡ i * 8 = length-take-le (i * 8) s (omega arith) in
+  pub turn : (t : List ℕ) → i < 16 → t ≡ put (i * 8) 8 s (be 8 (getD ps i 0)) → take ((i + 1) * 8) t ≡ collect (be 8) (take (i + 1) ps)
+  turn t h w =
+      let v : List ℕ = be 8 (getD ps i 0) in
+      let n : length v ≡ 8 = length-be 8 (getD ps i 0) in
+      let b : length (take (i * 8) s) ≡ i * 8 = length-take-le (i * 8) s (omega arith) in
       let k : length (take (i * 8) s ++ v) ≡ (i + 1) * 8 = rw length-append (omega arith) in
-      ap (take ((i + 1) * 8)) (sym (append-assoc (take (i * 8) s) v (drop (i * 8 + 8 - i * 8) (drop (i * 8) s))))
-      ∙ take-at (take (i * 8) s ++ v) (drop (i * 8 + 8 - i * 8) (drop (i * 8) s)) ((i + 1) * 8) k
-      ∙ one-more v h w
+      ap (take ((i + 1) * 8)) (w ∙ sym (append-assoc (take (i * 8) s) v (drop 8 (drop (i * 8) s))))
+      ∙ take-at (take (i * 8) s ++ v) (drop 8 (drop (i * 8) s)) ((i + 1) * 8) k
+      ∙ one-more h
 
   pub end : 16 ≤ i → s ≡ recordOf ps
   unfolding recordOf
   end h = sym (take-all (i * 8) s (omega arith)) ∙ e ∙ ap (collect (be 8)) (take-all i ps (omega arith))
-
--- ---- the two ways in which reading a row answers
-
-module _ (v : RowVerdict) (ps a : List ℕ) (ea : a ≡ recordOf ps) where
-  pub row-finished : (r : Edit) → v ≡ Row r → ps ≡ padded (rowPlaces r) → (0 ≡ rowAnswerBy v .number) × (a ≡ recordOf (rowAnswerBy v .places))
-  row-finished r e h = rw e (refl, ea ∙ ap recordOf h)
-
-  pub row-refused : (n x : ℕ) → v ≡ Refused n x → ps ≡ padded (x ∷ []) → (n ≡ rowAnswerBy v .number) × (a ≡ recordOf (rowAnswerBy v .places))
-  row-refused n x e h = rw e (refl, ea ∙ ap recordOf h)

@@ -2,19 +2,21 @@
 ghost use mathlib.Core.Path.{_≡_};
 ghost use mathlib.Core.List.{[], _∷_};
 ghost use lib.ListN.{length};
-ghost use Rattle.transaction.specs.Change.{logOf, forceOf, messageOf, expectedOf};
-ghost use Rattle.transaction.specs.Fields.{refLogByte, previousByte};
-ghost use Rattle.model.specs.Numbers.{rowPlaces, flag};
-ghost use Rattle.answers.specs.Answers.{recordOf, padded, answerBy, rowAnswerBy, parentFlag, parentPlace};
-use transaction::Change;
+ghost use Rattle.model.specs.Numbers.{answer, rowPlaces};
+ghost use Rattle.answers.specs.Answers.{recordOf, padded, answerBy};
 use transaction::Edit;
-use transaction::ParentIndex;
 
-// The answer record, 16 places of 8 bytes, and the numbers of refusals.
+// The answer record, 16 places of 8 bytes, and the numbers that calls return.
 pub struct Answer {}
 
 impl Answer {
+    pub const PLACES: usize = 16;
+
+    pub const WIDTH: usize = 8;
+
     pub const SIZE: usize = 128;
+
+    pub const DONE: u32 = 0;
 
     pub const BAD_REGION: u32 = 1;
 
@@ -35,19 +37,80 @@ impl Answer {
     pub const NOTHING_THERE: u32 = 22;
 }
 
-// What a call answers: done, with as many places as it uses, or a refusal's number and what stands in its place 0.
-pub enum Verdict {
-    Done,
-    Number(u64),
-    Two(u64, u64),
-    Four(u64, u64, u64, u64),
-    Refused(u32, u64),
+// What a call answers: its number, and every place of the record. So equal answers are equal verdicts.
+pub struct Verdict {
+    pub number: u32,
+    pub places: [u64; 16],
 }
 
-// What reading a row answers.
-pub enum RowVerdict {
-    Row(Edit),
-    Refused(u32, u64),
+// A number with as many places as it uses; the others are 0.
+impl Verdict {
+    pub fn bare(number: u32) -> Verdict
+        ensures { λ r. ⌜ answerBy r ≡ answer number [] ⌝ }
+    {
+        let places = [0u64; 16];
+        Verdict {
+            number: number,
+            places: places,
+        }
+    }
+
+    pub fn one(number: u32, x: u64) -> Verdict
+        ensures { λ r. ⌜ answerBy r ≡ answer number (x ∷ []) ⌝ }
+    {
+        let mut places = [0u64; 16];
+        places[0] = x;
+        Verdict {
+            number: number,
+            places: places,
+        }
+    }
+
+    pub fn two(number: u32, x: u64, y: u64) -> Verdict
+        ensures { λ r. ⌜ answerBy r ≡ answer number (x ∷ y ∷ []) ⌝ }
+    {
+        let mut places = [0u64; 16];
+        places[0] = x;
+        places[1] = y;
+        Verdict {
+            number: number,
+            places: places,
+        }
+    }
+
+    pub fn four(number: u32, x: u64, y: u64, z: u64, w: u64) -> Verdict
+        ensures { λ r. ⌜ answerBy r ≡ answer number (x ∷ y ∷ z ∷ w ∷ []) ⌝ }
+    {
+        let mut places = [0u64; 16];
+        places[0] = x;
+        places[1] = y;
+        places[2] = z;
+        places[3] = w;
+        Verdict {
+            number: number,
+            places: places,
+        }
+    }
+
+    // What reading a row answers.
+    pub fn row(row: Edit) -> Verdict
+        ensures { λ r. ⌜ answerBy r ≡ answer 0 (rowPlaces row) ⌝ }
+    {
+        Verdict {
+            number: Answer::DONE,
+            places: row_places(row),
+        }
+    }
+}
+
+// The places of a row: its numbers, as its slot has them, and zeros.
+fn row_places(row: Edit) -> [u64; 16]
+    ensures { λ r. ⌜ r ≡ padded (rowPlaces row) ⌝ }
+{
+    let p = slots::row_numbers(row);
+    [
+        p[0], p[1], p[2], p[3], p[4], p[5], p[6], p[7], p[8], p[9], p[10], p[11], p[12], 0, 0, 0,
+    ]
 }
 
 // ---- the record
@@ -57,189 +120,9 @@ fn put_places(answer: &mut [u8], places: [u64; 16])
     ensures { λ _. ⌜ now (answer .exit) ≡ recordOf places ⌝ }
 {
     let mut i: usize = 0;
-    while i < 16 {
-        let a = i * 8;
-        let e = a + 8;
-        word::put64(&mut answer[a..e], places[i]);
+    while i < Answer::PLACES {
+        word::put_at(answer, i * Answer::WIDTH, Answer::WIDTH, places[i]);
         i += 1;
-    }
-}
-
-// ---- places in use, and zeros
-
-// One number, and none.
-fn one_place(x: u64) -> [u64; 16]
-    ensures { λ r. ⌜ r ≡ padded (x ∷ []) ⌝ }
-{
-    let mut out = [0u64; 16];
-    out[0] = x;
-    out
-}
-
-fn two_places(x: u64, y: u64) -> [u64; 16]
-    ensures { λ r. ⌜ r ≡ padded (x ∷ y ∷ []) ⌝ }
-{
-    let mut out = [0u64; 16];
-    out[0] = x;
-    out[1] = y;
-    out
-}
-
-fn four_places(x: u64, y: u64, z: u64, w: u64) -> [u64; 16]
-    ensures { λ r. ⌜ r ≡ padded (x ∷ y ∷ z ∷ w ∷ []) ⌝ }
-{
-    let mut out = [0u64; 16];
-    out[0] = x;
-    out[1] = y;
-    out[2] = z;
-    out[3] = w;
-    out
-}
-
-// ---- the places of a row
-
-fn log_byte(change: Change) -> u64
-    ensures { λ r. ⌜ r ≡ refLogByte (logOf change) ⌝ }
-{
-    match change {
-        Change::Update {
-            log,
-            expected: _,
-            new: _,
-        } => {
-            let mode = log.mode;
-            mode.byte()
-        }
-        Change::Delete { expected: _, log } => log.byte(),
-    }
-}
-
-fn flag_of(b: bool) -> u64
-    ensures { λ r. ⌜ r ≡ flag b ⌝ }
-{
-    if b { 1 } else { 0 }
-}
-
-fn force_flag(change: Change) -> u64
-    ensures { λ r. ⌜ r ≡ flag (forceOf change) ⌝ }
-{
-    match change {
-        Change::Update {
-            log,
-            expected: _,
-            new: _,
-        } => flag_of(log.force_create_reflog),
-        Change::Delete {
-            expected: _,
-            log: _,
-        } => 0,
-    }
-}
-
-fn message_of(change: Change) -> u64
-    ensures { λ r. ⌜ r ≡ messageOf change ⌝ }
-{
-    match change {
-        Change::Update {
-            log,
-            expected: _,
-            new: _,
-        } => log.message as u64,
-        Change::Delete {
-            expected: _,
-            log: _,
-        } => 0,
-    }
-}
-
-fn expected_byte(change: Change) -> u64
-    ensures { λ r. ⌜ r ≡ previousByte (expectedOf change) ⌝ }
-{
-    match change {
-        Change::Update {
-            log: _,
-            expected,
-            new: _,
-        } => expected.byte(),
-        Change::Delete { expected, log: _ } => expected.byte(),
-    }
-}
-
-fn parent_flag(p: ParentIndex) -> u64
-    ensures { λ r. ⌜ r ≡ parentFlag p ⌝ }
-{
-    match p {
-        ParentIndex::NoParent => 0,
-        ParentIndex::Parent(_) => 1,
-    }
-}
-
-fn parent_place(p: ParentIndex) -> u64
-    ensures { λ r. ⌜ r ≡ parentPlace p ⌝ }
-{
-    match p {
-        ParentIndex::NoParent => 0,
-        ParentIndex::Parent(j) => j as u64,
-    }
-}
-
-fn row_places(row: Edit) -> [u64; 16]
-    ensures { λ r. ⌜ r ≡ padded (rowPlaces row) ⌝ }
-{
-    let update = row.update;
-    let name = update.name;
-    let change = update.change;
-    let parent = row.parent_index;
-    let leaf = row.leaf_referent_previous_oid;
-    let expected = change.previous_value();
-    let new = change.new_value();
-    let from_kind = expected.byte();
-    let from = expected.number();
-    let to_kind = new.byte();
-    let to = new.number();
-    [
-        name.0 as u64,
-        change.byte(),
-        log_byte(change),
-        force_flag(change),
-        message_of(change),
-        expected_byte(change),
-        from_kind,
-        from,
-        to_kind,
-        to,
-        parent_flag(parent),
-        parent_place(parent),
-        leaf.0,
-        0,
-        0,
-        0,
-    ]
-}
-
-// ---- the answer
-
-fn places_of(verdict: Verdict) -> [u64; 16]
-    ensures { λ r. ⌜ r ≡ answerBy verdict .places ⌝ }
-{
-    match verdict {
-        Verdict::Done => one_place(0),
-        Verdict::Number(n) => one_place(n),
-        Verdict::Two(x, y) => two_places(x, y),
-        Verdict::Four(x, y, z, w) => four_places(x, y, z, w),
-        Verdict::Refused(_, x) => one_place(x),
-    }
-}
-
-fn number_of(verdict: Verdict) -> u32
-    ensures { λ r. ⌜ r ≡ answerBy verdict .number ⌝ }
-{
-    match verdict {
-        Verdict::Done => 0,
-        Verdict::Number(_) => 0,
-        Verdict::Two(_, _) => 0,
-        Verdict::Four(_, _, _, _) => 0,
-        Verdict::Refused(number, _) => number,
     }
 }
 
@@ -248,23 +131,7 @@ pub fn finish(answer: &mut [u8], verdict: Verdict) -> u32
     requires { ⌜ length (now answer) ≡ 128 ⌝ }
     ensures { λ r. ⌜ (r ≡ answerBy verdict .number) × (now (answer .exit) ≡ recordOf (answerBy verdict .places)) ⌝ }
 {
-    put_places(answer, places_of(verdict));
-    number_of(verdict)
-}
-
-// The same where a row is read.
-pub fn finish_row(answer: &mut [u8], verdict: RowVerdict) -> u32
-    requires { ⌜ length (now answer) ≡ 128 ⌝ }
-    ensures { λ r. ⌜ (r ≡ rowAnswerBy verdict .number) × (now (answer .exit) ≡ recordOf (rowAnswerBy verdict .places)) ⌝ }
-{
-    match verdict {
-        RowVerdict::Row(row) => {
-            put_places(answer, row_places(row));
-            0
-        }
-        RowVerdict::Refused(number, x) => {
-            put_places(answer, one_place(x));
-            number
-        }
-    }
+    let places = verdict.places;
+    put_places(answer, places);
+    verdict.number
 }

@@ -1,5 +1,5 @@
 -- What each way out of a decision says of the lines that are due. Assumes nothing.
-use mathlib.Core.Path.{_≡_, refl, sym, ap, ap₂, _∙_}
+use mathlib.Core.Path.{_≡_, refl, sym, ap, _∙_}
 use mathlib.Core.Bool.{Bool, true, false, not, cond}
 use mathlib.Core.List.{List, []}
 use Prim.Native.Nat.{ℕ}
@@ -25,7 +25,7 @@ use Rattle.model.specs.Basic.{when}
 use Rattle.model.specs.Names.{isDisabled, logs}
 use Rattle.model.specs.Store.{Store, nameOf}
 use Rattle.model.specs.Rows.{nameIn, changeIn}
-use Rattle.model.specs.Due.{orLeaf, symbolicMove, moveOf, hasLines, isLogged, lineBy, dueLine}
+use Rattle.model.specs.Due.{orLeaf, symbolicMove, moveOf, hasLines, isLogged, dueLine}
 use Rattle.rows.specs.declared.OptionMove.{OptionMove}
 use Rattle.rows.specs.declared.OptionMove.the-variants.{NoMove, Moved}
 use Rattle.rows.specs.Due.{moveList, lineList}

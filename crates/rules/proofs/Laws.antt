@@ -61,6 +61,10 @@ loop-done i n p h a b = loop-end i n n p h a b refl
 
 -- ---- names and values
 
+-- the name at a place below a bound
+pub placed : (n : NameNumber) (i m : ℕ) → n ≡ record { 0 = i } → i < m → n .0 < m
+placed n i m e h = rw e h
+
 positive : (x : ℕ) → not (eqb x 0) ≡ ltb 0 x
 positive x = go (eqb x 0) refl
   where

@@ -6,23 +6,33 @@ use mathlib.Core.Option.{Option, none, some}
 use Prim.Native.Nat.{ℕ, zero, suc, _+_, _-_, _<_, _≤_, _^_}
 use native.Mathlib.Numerals.{add-one}
 use native.Mathlib.Omega.{arith}
-use lib.ListN.{length, getD, drop, length-set, drop-of-length-le}
+use lib.ListN.{length, getD, drop, length-set, drop-of-length-le, List·getD-eq-default}
 use lib.Seq.{drop-cons}
 use lib.Dec.{eqb, leb·suc-suc, eqb·suc-zero}
-use borrow.Author.Tests.{lt-ltb, le-ltb, ne-eqb, not-true, not-false}
+use borrow.Author.Tests.{lt-ltb, le-ltb, ne-eqb, eqb-true, eqb-false, not-true, not-false}
 use mir.Val.{Fits}
 use mir.Syntax.{w64}
 use Rattle.target.specs.declared.NameNumber.{NameNumber}
+use Rattle.target.specs.declared.ObjectNumber.{ObjectNumber}
+use Rattle.target.specs.declared.OptionObject.{OptionObject}
+use Rattle.target.specs.declared.OptionObject.the-variants.{NoId, Id}
+use Rattle.target.specs.declared.Target.the-variants.{Object}
+use Rattle.target.specs.declared.OptionTarget.{OptionTarget}
+use Rattle.target.specs.declared.OptionTarget.the-variants.{Absent, Present}
+use Rattle.target.specs.Fields.{objectOf}
+use Rattle.model.specs.declared.Loose.{Loose}
+use Rattle.model.specs.declared.Packed.{Packed}
+use Rattle.model.specs.Read.{packedValue, looseOr, valueOf}
 use Rattle.model.specs.declared.Lock.{Lock}
 use Rattle.model.specs.declared.Lock.the-variants.{Free, Foreign}
 use Rattle.model.specs.declared.Packed.the-variants as packed
 use Rattle.model.specs.declared.Line.{Line}
 use Rattle.model.specs.Basic.{select}
 use Rattle.model.specs.Names.{sameBytes}
-use Rattle.model.specs.Store.{Store, Entry, noEntry, noLine, count, entryAt, isId, isOf, linesOf, putLock, changeAt, changeEntry, withEntries, withPackedLock}
+use Rattle.model.specs.Store.{Store, Entry, noEntry, noLine, count, entryAt, isId, isOf, linesOf, putLock, changeAt, changeEntry, withEntries, withPackedLock, withPrepared, entryOf}
 use Rattle.model.specs.Load.{numberFrom}
 use Rattle.model.specs.Commit.{freed, released}
-use Rattle.region.specs.Region.{view, unprepared, Laid, Became}
+use Rattle.region.specs.Region.{view, Laid, Became}
 use Rattle.steps.specs.declared.Turned.the-variants as turned
 use Rattle.steps.specs.Steps.{packedBy, placedOn, liftedFrom, freeNames, lineAmong, leftAfter}
 
@@ -30,15 +40,19 @@ use Rattle.steps.specs.Steps.{packedBy, placedOn, liftedFrom, freeNames,
 next : {A : Type 0} (xs : List A) (d : A) (i n : ℕ) → n ≡ length xs → i < n → drop i xs ≡ getD xs i d ∷ drop (i + 1) xs
 next xs d i n e l = let b : i < length xs = rw e at l in rw add-one (drop-cons xs i d b)
 
+-- the name at a place below the count is registered
+pub at-below : (m : NameNumber) (n k : ℕ) (s : Store) → m ≡ record { 0 = n } → n < k → k ≡ count s → m .0 < count s
+at-below m n k s e l f = rw e (omega arith)
+
 -- ---- the number of a name
 
 module _ (name : List ℕ) (xs : List Entry) (i n : ℕ) (z : Option ℕ) (h : numberFrom i name (drop i xs) ≡ z) (e : n ≡ length xs) where
-  module _ (b : List ℕ) (r : Bool) (l : i < n) (eb : b ≡ getD xs i noEntry .name) (er : r ≡ sameBytes name b) where
+  module _ (at : NameNumber) (b : List ℕ) (r : Bool) (l : i < n) (ea : at ≡ record { 0 = i }) (eb : b ≡ getD xs (at .0) noEntry .name) (er : r ≡ sameBytes name b) where
     same-here : sameBytes name (getD xs i noEntry .name) ≡ r
-    same-here = ap (sameBytes name) (sym eb) ∙ sym er
+    same-here = ap (λ (a : NameNumber). sameBytes name (getD xs (a .0) noEntry .name)) (sym ea) ∙ ap (sameBytes name) (sym eb) ∙ sym er
 
-    pub number-here : r ≡ true → some i ≡ z
-    number-here t = rw (next xs noEntry i n e l, same-here ∙ t) at h
+    pub number-here : r ≡ true → some (at .0) ≡ z
+    number-here t = ap (λ (a : NameNumber). some (a .0)) ea ∙ (rw (next xs noEntry i n e l, same-here ∙ t) at h)
 
     pub number-more : r ≡ false → numberFrom (i + 1) name (drop (i + 1) xs) ≡ z
     number-more t = rw (next xs noEntry i n e l, same-here ∙ t) at h
@@ -64,14 +78,28 @@ module _ (b : Bool) (k x : ℕ) where
   pub packed-none : k ≡ 0 → x ≡ 0 → some packed.None ≡ packedBy b k x
   packed-none e h = rw (e, h)
 
-  pub packed-null : k ≡ 1 → x ≡ 0 → none ≡ packedBy b k x
-  packed-null e h = rw (e, h)
+  -- o is the object of the number, unless that is the null id
+  module _ (o : OptionObject) (eo : o ≡ objectOf x) (f : Fits w64 x) where
+    pub packed-null : k ≡ 1 → o ≡ NoId → none ≡ packedBy b k x
+    packed-null e h = go (eqb x 0) refl
+      where
+        go : (t : Bool) → eqb x 0 ≡ t → none ≡ packedBy b k x
+        go true p = rw (e, eqb-true x 0 p)
+        go false p = absurd (let q : o ≡ Id (record { 0 = x }) = rw p at eo in let z : _≡_ {A = ℕ} 0 1 = cc in omega arith)
 
-  pub packed-unpackable : k ≡ 1 → (x ≡ 0 → ⊥) → Fits w64 x → not b ≡ true → none ≡ packedBy b k x
-  packed-unpackable e h f t = rw (e, is-id x f h, not-true b t)
+    -- an object that is there has that number, and it is not 0
+    there : (i : ObjectNumber) → o ≡ Id i → (i ≡ record { 0 = x }) × (isId x ≡ true)
+    there i h = go (eqb x 0) refl
+      where
+        go : (t : Bool) → eqb x 0 ≡ t → (i ≡ record { 0 = x }) × (isId x ≡ true)
+        go true p = absurd (let q : o ≡ NoId = rw p at eo in let z : _≡_ {A = ℕ} 0 1 = cc in omega arith)
+        go false p = let q : o ≡ Id (record { 0 = x }) = rw p at eo in (cc, is-id x f (eqb-false x 0 p))
 
-  pub packed-object : k ≡ 1 → (x ≡ 0 → ⊥) → Fits w64 x → not b ≡ false → some (packed.Object (record { 0 = x })) ≡ packedBy b k x
-  packed-object e h f t = rw (e, is-id x f h, not-false b t)
+    pub packed-unpackable : (i : ObjectNumber) → k ≡ 1 → o ≡ Id i → not b ≡ true → none ≡ packedBy b k x
+    packed-unpackable i e h t = rw (e, there i h .1, not-true b t)
+
+    pub packed-object : (i : ObjectNumber) → k ≡ 1 → o ≡ Id i → not b ≡ false → some (packed.Object i) ≡ packedBy b k x
+    packed-object i e h t = rw (e, there i h .0, there i h .1, not-false b t)
 
 pub packed-other : (b : Bool) (k x : ℕ) → (k ≡ 0 → ⊥) → (k ≡ 1 → ⊥) → none ≡ packedBy b k x
 packed-other b zero x p q = absurd (p refl)
@@ -100,21 +128,23 @@ pub freed-none : (r : List ℕ) → Laid r → Became r (freeNames 0 (view r))
 unfolding freeNames
 freed-none r h = record { laid = h; seen = refl }
 
-pub freed-more : (k : ℕ) (r r′ : List ℕ) (s : Store) (a l : Lock) → Became r (freeNames k s) → a ≡ entryAt (view r) k .lock → l ≡ freed a
-    → Became r′ (changeEntry (putLock l) k (view r)) → Became r′ (freeNames (k + 1) s)
+pub freed-more : (k : ℕ) (n : NameNumber) (r r′ : List ℕ) (s : Store) (a l : Lock) → Became r (freeNames k s) → n ≡ record { 0 = k }
+    → a ≡ entryOf (view r) n .lock → l ≡ freed a
+    → Became r′ (changeEntry (putLock l) (n .0) (view r)) → Became r′ (freeNames (k + 1) s)
 unfolding freeNames
-freed-more k r r′ s a l h ea el g =
+freed-more k n r r′ s a l h en ea el g =
     record {
       laid = g .laid;
       seen =
           g .seen
-          ∙ ap (λ (l : Lock). changeEntry (putLock l) k (view r)) (el ∙ ap freed ea)
+          ∙ ap (λ (l : Lock). changeEntry (putLock l) (n .0) (view r)) (el ∙ ap freed ea)
+          ∙ ap (λ (m : NameNumber). changeEntry free (m .0) (view r)) en
           ∙ ap (changeEntry free k) (h .seen)
           ∙ (rw add-one);
     }
 
-pub freed-below : (k n : ℕ) (r : List ℕ) (s : Store) → Became r (freeNames k s) → k < n → n ≡ count s → k < count (view r)
-freed-below k n r s h l g = rw (h .seen, count-freed) (omega arith)
+pub freed-below : (k n : ℕ) (m : NameNumber) (r : List ℕ) (s : Store) → Became r (freeNames k s) → m ≡ record { 0 = k } → k < n → n ≡ count s → m .0 < count (view r)
+freed-below k n m r s h e l g = rw (e, h .seen, count-freed) (omega arith)
 
 pub freed-end : (k n : ℕ) (r : List ℕ) (s : Store) → Became r (freeNames k s) → k ≤ n → n ≤ k → n ≡ count s → Became r (freeNames (count s) s)
 freed-end k n r s h p q g = let e : k ≡ count s = omega arith in rw e at h
@@ -140,7 +170,7 @@ freed-are zero s = refl
 freed-are (suc k) s = ap (changeEntry free k) (freed-are k s)
 
 pub released-is : (r₀ r₁ r₂ r₃ : List ℕ) (a l : Lock) → Became r₁ (freeNames (count (view r₀)) (view r₀)) → a ≡ view r₁ .packedLock → l ≡ freed a
-    → Became r₂ (withPackedLock (view r₁) l) → Became r₃ (unprepared (view r₂)) → Became r₃ (released (view r₀))
+    → Became r₂ (withPackedLock (view r₁) l) → Became r₃ (withPrepared (view r₂) none) → Became r₃ (released (view r₀))
 unfolding released
 released-is r₀ r₁ r₂ r₃ a l h₁ ea el h₂ h₃ =
     let s : Store = view r₀ in
@@ -150,9 +180,36 @@ released-is r₀ r₁ r₂ r₃ a l h₁ ea el h₂ h₃ =
       laid = h₃ .laid;
       seen =
           h₃ .seen
-          ∙ ap unprepared (h₂ .seen ∙ ap (withPackedLock (view r₁)) (el ∙ ap freed ea))
-          ∙ ap (λ (t : Store). unprepared (withPackedLock t (freed (t .packedLock)))) e₁;
+          ∙ ap (λ (t : Store). withPrepared t none) (h₂ .seen ∙ ap (withPackedLock (view r₁)) (el ∙ ap freed ea))
+          ∙ ap (λ (t : Store). withPrepared (withPackedLock t (freed (t .packedLock))) none) e₁;
     }
+
+-- ---- what a name reads
+
+module _ (seen : Bool) (p : Packed) where
+  pub unseen-is : not seen ≡ true → Absent ≡ packedValue seen p
+  unseen-is t = rw (not-true seen t)
+
+  pub seen-none : not seen ≡ false → p ≡ packed.None → Absent ≡ packedValue seen p
+  seen-none t e = rw (not-false seen t, e)
+
+  pub seen-object : (o : ObjectNumber) → not seen ≡ false → p ≡ packed.Object o → Present (Object o) ≡ packedValue seen p
+  seen-object o t e = rw (not-false seen t, e)
+
+none-seen : (seen : Bool) → valueOf seen noEntry ≡ Absent
+none-seen true = refl
+none-seen false = refl
+
+module _ (s : Store) (seen : Bool) (name : NameNumber) where
+  pub value-none : (n m : ℕ) → n ≡ name .0 → m ≡ count s → m ≤ n → Absent ≡ valueOf seen (entryOf s name)
+  value-none n m en e l =
+      let b : count s ≤ name .0 = omega arith in
+      sym (ap (valueOf seen) (List·getD-eq-default (s .entries) noEntry b) ∙ none-seen seen)
+
+  pub value-at : (p : Packed) (q : OptionTarget) (l : Loose) (r : OptionTarget) → p ≡ entryOf s name .packed → q ≡ packedValue seen p → l ≡ entryOf s name .loose
+      → r ≡ looseOr l q → r ≡ valueOf seen (entryOf s name)
+  value-at p q l r ep eq el er =
+      er ∙ ap (λ (l : Loose). looseOr l q) el ∙ ap (looseOr (entryOf s name .loose)) (eq ∙ ap (packedValue seen) ep)
 
 -- ---- the line of a name at a place
 

@@ -5,27 +5,27 @@ use mathlib.Core.Option.{Option, none, some}
 use Prim.Native.Nat.{ℕ, zero, suc, _-_}
 use lib.ListN.{length, getD}
 use lib.Dec.{eqb, ltb}
+use Rattle.target.specs.declared.OptionName.{OptionName}
+use Rattle.target.specs.declared.OptionName.the-variants.{NoName, Name}
 use Rattle.model.specs.declared.Lock.{Lock}
 use Rattle.model.specs.declared.Lock.the-variants.{Free, Foreign, Ours}
 use Rattle.model.specs.declared.Packed.{Packed}
 use Rattle.model.specs.declared.Packed.the-variants as packed
 use Rattle.model.specs.declared.Line.{Line}
+use Rattle.model.specs.declared.OptionLine.{OptionLine}
+use Rattle.model.specs.declared.OptionLine.the-variants as optionLine
 use Rattle.model.specs.Store.{Store, Entry, noLine, isId, putLock, changeEntry}
 use Rattle.model.specs.Commit.{freed}
-use Rattle.steps.specs.declared.Found.{Found}
-use Rattle.steps.specs.declared.Found.the-variants.{Nowhere, At}
 use Rattle.steps.specs.declared.OptionPacked.{OptionPacked}
 use Rattle.steps.specs.declared.OptionPacked.the-variants as optionPacked
-use Rattle.steps.specs.declared.OptionLine.{OptionLine}
-use Rattle.steps.specs.declared.OptionLine.the-variants as optionLine
 use Rattle.steps.specs.declared.Turned.{Turned}
 use Rattle.steps.specs.declared.Turned.the-variants as turned
 
 -- ---- names
 
-abbrev pub foundOption : Found → Option ℕ
-foundOption Nowhere = none
-foundOption (At n) = some n
+abbrev pub foundOption : OptionName → Option ℕ
+foundOption NoName = none
+foundOption (Name n) = some (n .0)
 
 -- ---- loads
 

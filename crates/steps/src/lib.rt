@@ -1,46 +1,44 @@
 // What the calls are made of: functions on a region that is laid out so, each by what the model's call does.
 ghost use mathlib.Core.Path.{_≡_};
-ghost use mathlib.Core.Bool.{true, _&&_};
+ghost use mathlib.Core.Bool.{_&&_};
 ghost use lib.Dec.{eqb};
-ghost use Rattle.model.specs.Store.{count, linesOf};
-ghost use Rattle.model.specs.Read.{looseOr, packedValue};
+ghost use Rattle.model.specs.Store.{count, entryOf, linesOf};
+ghost use Rattle.model.specs.Read.{looseOr, packedValue, valueOf};
 ghost use Rattle.model.specs.Commit.{freed, released};
 ghost use Rattle.model.specs.Load.{numberFrom};
 ghost use Rattle.region.specs.Region.{view, Laid, Became};
 ghost use Rattle.steps.specs.Steps.{foundOption, packedBy, packedOption, placedOn, liftedFrom, freeNames};
 ghost use Rattle.steps.specs.Steps.{lineOption, lineAmong, leftAfter};
-use model::Line;
 use model::Lock;
 use model::Loose;
+use model::OptionLine;
 use model::Packed;
 use target::NameNumber;
 use target::ObjectNumber;
+use target::OptionName;
+use target::OptionObject;
 use target::OptionTarget;
 use target::Target;
 
 // ---- names
 
-pub enum Found {
-    Nowhere,
-    At(usize),
-}
-
 // The number of the name with these bytes.
-pub fn find_name(region: &[u8], name: &[u8]) -> Found
+pub fn find_name(region: &[u8], name: &[u8]) -> OptionName
     requires { ⌜ Laid (now region) ⌝ }
     ensures { λ r. ⌜ foundOption r ≡ numberFrom 0 (now (name .entry)) (view (now (region .entry)) .entries) ⌝ }
 {
     let count = region::count_names(region);
     let mut n: usize = 0;
     while n < count {
-        let same = word::same(name, region::name_at(region, n));
+        let at = NameNumber::at(n);
+        let same = word::same(name, region::name_at(region, at));
         if same {
-            return Found::At(n);
+            return OptionName::Name(at);
         } else {
             n += 1;
         }
     }
-    Found::Nowhere
+    OptionName::NoName
 }
 
 // ---- loads
@@ -55,20 +53,20 @@ pub fn packed_of(packable: bool, kind: u64, number: u64) -> OptionPacked
     ensures { λ r. ⌜ packedOption r ≡ packedBy packable kind number ⌝ }
 {
     match kind {
-        0 => {
+        OptionTarget::NONE => {
             if number != 0 {
                 return OptionPacked::NoPacked;
             }
             OptionPacked::Packed(Packed::None)
         }
-        1 => {
-            if number == ObjectNumber::NULL {
+        OptionTarget::OBJECT => {
+            let OptionObject::Id(oid) = ObjectNumber::new(number) else {
                 return OptionPacked::NoPacked;
-            }
+            };
             if !packable {
                 return OptionPacked::NoPacked;
             }
-            OptionPacked::Packed(Packed::Object(ObjectNumber(number)))
+            OptionPacked::Packed(Packed::Object(oid))
         }
         _ => OptionPacked::NoPacked,
     }
@@ -120,8 +118,9 @@ pub fn free_names(region: &mut [u8])
     let count = region::count_names(region);
     let mut n: usize = 0;
     while n < count {
-        let lock = freed_lock(region::lock_at(region, n));
-        region::put_lock_at(region, n, lock);
+        let at = NameNumber::at(n);
+        let lock = freed_lock(region::lock_at(region, at));
+        writers::put_lock_at(region, at, lock);
         n += 1;
     }
 }
@@ -133,35 +132,46 @@ pub fn release(region: &mut [u8])
 {
     free_names(region);
     let lock = freed_lock(region::packed_lock(region));
-    region::put_packed_lock(region, lock);
-    region::forget_rows(region);
+    writers::put_packed_lock(region, lock);
+    writers::forget_rows(region);
 }
 
 // ---- reads
 
-pub fn packed_value(packed: Packed) -> OptionTarget
-    ensures { λ r. ⌜ r ≡ packedValue true packed ⌝ }
+// The packed value, where the packed table is seen.
+fn packed_value(seen: bool, packed: Packed) -> OptionTarget
+    ensures { λ r. ⌜ r ≡ packedValue seen packed ⌝ }
 {
+    if !seen {
+        return OptionTarget::Absent;
+    }
     match packed {
         Packed::None => OptionTarget::Absent,
         Packed::Object(oid) => OptionTarget::Present(Target::Object(oid)),
     }
 }
 
-// A name's loose target; if that is none or broken, its packed value; else absent.
-pub fn value_of(loose: Loose, packed: Packed) -> OptionTarget
-    ensures { λ r. ⌜ r ≡ looseOr loose (packedValue true packed) ⌝ }
+// A loose target; if that is none or broken, the packed value.
+fn loose_or(loose: Loose, packed: OptionTarget) -> OptionTarget
+    ensures { λ r. ⌜ r ≡ looseOr loose packed ⌝ }
 {
     match loose {
+        Loose::None => packed,
         Loose::Target(t) => OptionTarget::Present(t),
-        Loose::None => packed_value(packed),
-        Loose::Broken => packed_value(packed),
+        Loose::Broken => packed,
     }
 }
 
-pub enum OptionLine {
-    NoLine,
-    Line(Line),
+// What a name reads, with the packed table seen or not; a number that is not registered reads absent.
+pub fn value_of(region: &[u8], seen: bool, name: NameNumber) -> OptionTarget
+    requires { ⌜ Laid (now region) ⌝ }
+    ensures { λ r. ⌜ r ≡ valueOf seen (entryOf (view (now (region .entry))) name) ⌝ }
+{
+    if name.place() >= region::count_names(region) {
+        return OptionTarget::Absent;
+    }
+    let packed = packed_value(seen, region::packed_at(region, name));
+    loose_or(region::loose_at(region, name), packed)
 }
 
 // Whether a line is the one: it is the name's, and no other is to be passed before.

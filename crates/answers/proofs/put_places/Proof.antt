@@ -1,12 +1,12 @@
 -- `put_places` meets its contract: the first i places stand in the first i * 8 bytes. Assumes nothing.
-use Rattle.answers.proofs.Laws.{turn, end}
-use Prim.Native.Nat.{ℕ, _+_, _-_, _*_, _<_, _≤_}
 use mathlib.Core.Path.{_≡_, refl}
+use Prim.Native.Nat.{_*_, _-_, _≤_}
 use native.Mathlib.Omega.{arith}
 use lib.ListN.{length, take}
+use borrow.Author.Needs.{needs}
 use Rattle.word.specs.Be.{be}
 use Rattle.model.specs.Basic.{collect}
-use borrow.Author.Needs.{needs}
+use Rattle.answers.proofs.Laws.{turn, end}
 use Rattle.answers.proofs.put_places.Statement.{statement}
 use Rattle.answers.proofs.put_places.Tie as tie
 
@@ -20,29 +20,17 @@ abbrev μ-loop : tie.MeasureT-loop
 loop-holds : tie.Need-loop-holds Inv-loop μ-loop
 loop-holds c = (omega arith, omega arith, omega arith, refl)
 
-mul-a : tie.Need-mul-a Inv-loop μ-loop
-mul-a c = omega arith
+mul-put-at : tie.Need-mul-put-at Inv-loop μ-loop
+mul-put-at c = omega arith
 
-add-e : tie.Need-add-e Inv-loop μ-loop
-add-e c = omega arith
+mul-put-at-2 : tie.Need-mul-put-at-2 Inv-loop μ-loop
+mul-put-at-2 c = omega arith
 
-sub-put64 : tie.Need-sub-put64 Inv-loop μ-loop
-sub-put64 c = omega arith
+array-read-put-at : tie.Need-array-read-put-at Inv-loop μ-loop
+array-read-put-at c = omega arith
 
-part-put64-start : tie.Need-part-put64-start Inv-loop μ-loop
-part-put64-start c = omega arith
-
-part-put64-end : tie.Need-part-put64-end Inv-loop μ-loop
-part-put64-end c = omega arith
-
-mul-put64 : tie.Need-mul-put64 Inv-loop μ-loop
-mul-put64 c = omega arith
-
-array-read-put64 : tie.Need-array-read-put64 Inv-loop μ-loop
-array-read-put64 c = omega arith
-
-put64-requires : tie.Need-put64-requires Inv-loop μ-loop
-put64-requires c κs = search needs
+put-at-requires : tie.Need-put-at-requires Inv-loop μ-loop
+put-at-requires c κs = omega arith
 
 add-i : tie.Need-add-i Inv-loop μ-loop
 add-i c = omega arith
@@ -51,7 +39,7 @@ loop-less : tie.Need-loop-less Inv-loop μ-loop
 loop-less c = omega arith
 
 loop-again : tie.Need-loop-again Inv-loop μ-loop
-loop-again c = (omega arith, search needs, c .before .before .before .before .before .loop .inv .2, search turn)
+loop-again c = (omega arith, search needs, omega arith, search turn)
 
 same-length : tie.Need-same-length Inv-loop μ-loop
 same-length c = omega arith
@@ -66,14 +54,10 @@ put-places-spec =
     Inv-loop
     μ-loop
     loop-holds
-    mul-a
-    add-e
-    sub-put64
-    part-put64-start
-    part-put64-end
-    mul-put64
-    array-read-put64
-    put64-requires
+    mul-put-at
+    mul-put-at-2
+    array-read-put-at
+    put-at-requires
     add-i
     loop-less
     loop-again

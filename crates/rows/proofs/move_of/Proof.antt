@@ -2,49 +2,34 @@ use borrow.Author.Needs.{needs}
 use Rattle.rows.proofs.Lines.{move-object, move-link}
 use Rattle.rows.proofs.move_of.Statement.{statement}
 use Rattle.rows.proofs.move_of.Tie as tie
-use Rattle.rows.proofs.move_of.Reads as reads
-use Rattle.rows.proofs.move_of.Lts as lts
-use Rattle.rows.proofs.link_move.Reads as link-move-reads
-use Rattle.rows.proofs.object_move.Reads as object-move-reads
-use Rattle.rows.proofs.previous_or.Reads as previous-or-reads
 
--- src/lib.rt:223:14
 enum-told : tie.Need-enum-told
 enum-told c = search needs
 
--- src/lib.rt:226:13
 enum-known-change : tie.Need-enum-known-change
 enum-known-change c = search needs
 
--- src/lib.rt:229:28
 enum-known-new : tie.Need-enum-known-new
 enum-known-new c = search needs
 
--- src/lib.rt:229:48
 previous-or-requires : tie.Need-previous-or-requires
 previous-or-requires c κs = search needs
 
--- src/lib.rt:229:36
 object-move-requires : tie.Need-object-move-requires
 object-move-requires c κs = search needs
 
--- src/lib.rt:230:36
 enum-told-2 : tie.Need-enum-told-2
 enum-told-2 c = search needs
 
--- src/lib.rt:230:36
 link-move-requires : tie.Need-link-move-requires
 link-move-requires c κs = search needs
 
--- src/lib.rt:216:1
 returns : tie.Need-returns
 returns c = search needs
 
--- src/lib.rt:216:1
 returns-2 : tie.Need-returns-2
 returns-2 c = search move-object
 
--- src/lib.rt:216:1
 returns-3 : tie.Need-returns-3
 returns-3 c = search move-link
 

@@ -3,34 +3,22 @@ use Rattle.model.specs.Names.{logs}
 use Rattle.rows.proofs.Says.{none-logged, test-past, test-at}
 use Rattle.rows.proofs.name_logged.Statement.{statement}
 use Rattle.rows.proofs.name_logged.Tie as tie
-use Rattle.rows.proofs.name_logged.Reads as reads
-use Rattle.rows.proofs.name_logged.Lts as lts
-use Rattle.names.proofs.is_logged.Reads as is-logged-reads
-use Rattle.region.proofs.count_names.Reads as count-names-reads
-use Rattle.region.proofs.name_at.Reads as name-at-reads
-use Rattle.target.proofs.NameNumber.place.Reads as place-reads
 
--- src/lib.rt:141:8
 place-requires : tie.Need-place-requires
 place-requires c κs = search needs
 
--- src/lib.rt:141:24
 count-names-requires : tie.Need-count-names-requires
 count-names-requires c κs = search needs
 
--- src/lib.rt:142:9
 returns : tie.Need-returns
 returns c = search (test-past (logs (c .before .before .before .before .args .setting)) (none-logged _))
 
--- src/lib.rt:144:31
 name-at-requires : tie.Need-name-at-requires
 name-at-requires c κs = search needs
 
--- src/lib.rt:144:5
 is-logged-requires : tie.Need-is-logged-requires
 is-logged-requires c κs = search needs
 
--- src/lib.rt:137:1
 returns-2 : tie.Need-returns-2
 returns-2 c = search (test-at (logs (c .before .before .before .before .before .before .args .setting)))
 

@@ -2,19 +2,13 @@ use borrow.Author.Needs.{needs}
 use Rattle.rows.proofs.Lines.{moved-not, moved-so}
 use Rattle.rows.proofs.object_move.Statement.{statement}
 use Rattle.rows.proofs.object_move.Tie as tie
-use Rattle.rows.proofs.object_move.Reads as reads
-use Rattle.rows.proofs.object_move.Lts as lts
-use Rattle.target.proofs.ObjectNumber.eq.Reads as eq-reads
 
--- src/lib.rt:192:8
 eq-requires : tie.Need-eq-requires
 eq-requires c κs = search needs
 
--- src/lib.rt:193:9
 returns : tie.Need-returns
 returns c = search moved-not
 
--- src/lib.rt:189:1
 returns-2 : tie.Need-returns-2
 returns-2 c = search moved-so
 

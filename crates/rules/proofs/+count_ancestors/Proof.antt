@@ -30,7 +30,6 @@ count-ancestors-below t =
     (falls 1 count-ancestors-kinds.ps _<_ μ-count-ancestors t)
     count-ancestors.Pre
 
--- src/lib.rt:187:9
 count-ancestors-row-at-requires : (t : ℕ) → count-ancestors-lts.Need-row-at-requires (
   row-at-reads.Asked,
   row-at-reads.Learnt,
@@ -39,7 +38,6 @@ count-ancestors-row-at-requires : (t : ℕ) → count-ancestors-lts.Need-row-at-
 ) (count-ancestors-at t) count-ancestors.Post
 count-ancestors-row-at-requires t c κs = let s = c .before in (s .pre .1 .0, s .pre .1 .1 .0)
 
--- src/lib.rt:189:29
 count-ancestors-enum-known-parent : (t : ℕ) → count-ancestors-lts.Need-enum-known-parent (
   row-at-reads.Asked,
   row-at-reads.Learnt,
@@ -48,7 +46,6 @@ count-ancestors-enum-known-parent : (t : ℕ) → count-ancestors-lts.Need-enum-
 ) (count-ancestors-at t) count-ancestors.Post
 count-ancestors-enum-known-parent t c = search needs
 
--- src/lib.rt:190:9
 count-ancestors-enum-told : (t : ℕ) → count-ancestors-lts.Need-enum-told (
   row-at-reads.Asked,
   row-at-reads.Learnt,
@@ -57,7 +54,6 @@ count-ancestors-enum-told : (t : ℕ) → count-ancestors-lts.Need-enum-told (
 ) (count-ancestors-at t) count-ancestors.Post
 count-ancestors-enum-told t c = search needs
 
--- src/lib.rt:190:9
 count-ancestors-returns : (t : ℕ) → count-ancestors-lts.Need-returns (
   row-at-reads.Asked,
   row-at-reads.Learnt,
@@ -68,7 +64,6 @@ count-ancestors-returns t c =
     let row = c .before .before in
     top-row _ _ _ (row .row-at .ensures) (c .enum-told .given .1)
 
--- src/lib.rt:192:9
 count-ancestors-count-ancestors-requires :
     (t : ℕ) → count-ancestors-lts.Need-count-ancestors-requires (
       row-at-reads.Asked,
@@ -84,16 +79,19 @@ count-ancestors-count-ancestors-requires t c κs =
     let h = s .pre .1 .1 .0 in
     (omega arith, (s .pre .1 .0, (omega arith, parent-upward _ (s .args .i) _ (row .row-at .ensures) (s .pre .1 .1 .1) _ (par .parent .given .1))))
 
--- src/lib.rt:192:5
 count-ancestors-add-result : (t : ℕ) → count-ancestors-lts.Need-add-result (
   row-at-reads.Asked,
   row-at-reads.Learnt,
   count-ancestors-below t,
   count-ancestors.Post,
 ) (count-ancestors-at t) count-ancestors.Post
-count-ancestors-add-result t c = search needs
+count-ancestors-add-result t c =
+    let par = c .before .before in
+    let row = par .before .before in
+    let s = row .before .before in
+    let q = parent-before _ (s .args .i) _ (row .row-at .ensures) (s .pre .1 .1 .1) _ (par .parent .given .1) in
+    omega (arith, s .pre .1 .1 .0, s .pre .1 .0, c .count-ancestors .ensures .1)
 
--- src/lib.rt:181:1
 count-ancestors-returns-2 : (t : ℕ) → count-ancestors-lts.Need-returns-2 (
   row-at-reads.Asked,
   row-at-reads.Learnt,

@@ -2,15 +2,10 @@ use Rattle.rules.proofs.Laws.{lines-rest}
 use borrow.Author.Needs.{needs}
 use Rattle.rules.proofs.lines_fine.Statement.{statement}
 use Rattle.rules.proofs.lines_fine.Tie as tie
-use Rattle.rules.proofs.lines_fine.Reads as reads
-use Rattle.rules.proofs.lines_fine.Lts as lts
-use Rattle.rules.proofs.lines_ok.Reads as lines-ok-reads
 
--- src/lib.rt:304:5
 lines-ok-requires : tie.Need-lines-ok-requires
 lines-ok-requires c κs = search needs
 
--- src/lib.rt:300:1
 returns : tie.Need-returns
 returns c = search lines-rest
 

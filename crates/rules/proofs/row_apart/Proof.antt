@@ -10,10 +10,6 @@ use Rattle.rules.proofs.Laws.{loop-none, apart-more, apart-stop, loop-d
 use borrow.Author.Needs.{needs}
 use Rattle.rules.proofs.row_apart.Statement.{statement}
 use Rattle.rules.proofs.row_apart.Tie as tie
-use Rattle.rules.proofs.row_apart.Reads as reads
-use Rattle.rules.proofs.row_apart.Lts as lts
-use Rattle.rules.proofs.row_name.Reads as row-name-reads
-use Rattle.target.proofs.NameNumber.eq.Reads as eq-reads
 
 abbrev Inv-loop : tie.InvT-loop
 Inv-loop region i name j₀ j = (j ≤ i) × (below j (apartRows (rowsIn (view region .prepared)) i) ≡ true)
@@ -21,39 +17,30 @@ Inv-loop region i name j₀ j = (j ≤ i) × (below j (apartRows (rowsIn (view r
 abbrev μ-loop : tie.MeasureT-loop
 μ-loop region i name j₀ j = i - j
 
--- src/lib.rt:248:9
 row-name-requires : tie.Need-row-name-requires Inv-loop μ-loop
 row-name-requires c κs = search needs
 
--- src/lib.rt:250:5
 loop-holds : tie.Need-loop-holds Inv-loop μ-loop
 loop-holds c = (omega arith, loop-none _)
 
--- src/lib.rt:251:28
 row-name-requires-2 : tie.Need-row-name-requires-2 Inv-loop μ-loop
 row-name-requires-2 c κs = search needs
 
--- src/lib.rt:251:13
 eq-requires : tie.Need-eq-requires Inv-loop μ-loop
 eq-requires c κs = search needs
 
--- src/lib.rt:253:13
 returns : tie.Need-returns Inv-loop μ-loop
 returns c = search apart-stop
 
--- src/lib.rt:255:13
 add-j : tie.Need-add-j Inv-loop μ-loop
 add-j c = search needs
 
--- src/lib.rt:250:5
 loop-less : tie.Need-loop-less Inv-loop μ-loop
 loop-less c = search needs
 
--- src/lib.rt:250:5
 loop-again : tie.Need-loop-again Inv-loop μ-loop
 loop-again c = (omega arith, search apart-more)
 
--- src/lib.rt:243:1
 returns-2 : tie.Need-returns-2 Inv-loop μ-loop
 returns-2 c = search loop-done
 

@@ -6,7 +6,7 @@ use Rattle.model.specs.Basic.{below}
 use Rattle.region.specs.Region.{view}
 use Rattle.model.specs.Store.{count, rowsIn}
 use Rattle.model.specs.Fine.{fineRow}
-use Rattle.rules.proofs.Laws.{loop-none, loop-more, loop-stop, loop-end}
+use Rattle.rules.proofs.Laws.{loop-none, loop-more, loop-stop, loop-end, rows-upward}
 use borrow.Author.Needs.{needs}
 use Rattle.rules.proofs.rows_ok.Statement.{statement}
 use Rattle.rules.proofs.rows_ok.Tie as tie
@@ -24,7 +24,7 @@ loop-holds : tie.Need-loop-holds Inv-loop μ-loop
 loop-holds c = (omega arith, loop-none _)
 
 row-ok-requires : tie.Need-row-ok-requires Inv-loop μ-loop
-row-ok-requires c κs = search needs
+row-ok-requires c κs = (search needs, (search needs, search rows-upward))
 
 add-i : tie.Need-add-i Inv-loop μ-loop
 add-i c = search needs

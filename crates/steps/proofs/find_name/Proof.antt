@@ -1,10 +1,11 @@
-use borrow.Author.Needs.{needs}
+-- `find_name` meets its contract: the names before n have other bytes. Assumes nothing.
 use mathlib.Core.Path.{_≡_, refl}
 use Prim.Native.Nat.{_-_}
 use lib.ListN.{drop}
-use Rattle.region.specs.Region.{view}
+use borrow.Author.Needs.{needs}
 use Rattle.model.specs.Load.{numberFrom}
-use Rattle.steps.proofs.Laws.{number-here, number-more, number-end}
+use Rattle.region.specs.Region.{view}
+use Rattle.steps.proofs.Laws.{at-below, number-here, number-more, number-end}
 use Rattle.steps.proofs.find_name.Statement.{statement}
 use Rattle.steps.proofs.find_name.Tie as tie
 
@@ -20,8 +21,11 @@ count-names-requires c κs = search needs
 loop-holds : tie.Need-loop-holds Inv-loop μ-loop
 loop-holds c = refl
 
+at-requires : tie.Need-at-requires Inv-loop μ-loop
+at-requires c κs = search needs
+
 name-at-requires : tie.Need-name-at-requires Inv-loop μ-loop
-name-at-requires c κs = search needs
+name-at-requires c κs = (search needs, search at-below)
 
 same-requires : tie.Need-same-requires Inv-loop μ-loop
 same-requires c κs = search needs
@@ -49,6 +53,7 @@ find-name-spec =
     μ-loop
     count-names-requires
     loop-holds
+    at-requires
     name-at-requires
     same-requires
     returns

@@ -1,8 +1,9 @@
-use borrow.Author.Needs.{needs}
+-- `free_names` meets its contract: of the first n names no lock is ours. Assumes nothing.
 use mathlib.Core.Path.{_≡_, refl}
-use native.Mathlib.Omega.{arith}
 use Prim.Native.Nat.{_-_, _≤_}
+use native.Mathlib.Omega.{arith}
 use lib.ListN.{length}
+use borrow.Author.Needs.{needs}
 use Rattle.region.specs.Region.{view, Became}
 use Rattle.steps.specs.Steps.{freeNames}
 use Rattle.steps.proofs.Laws.{freed-none, freed-more, freed-below, freed-end}
@@ -20,6 +21,9 @@ count-names-requires c κs = search needs
 
 loop-holds : tie.Need-loop-holds Inv-loop μ-loop
 loop-holds c = (omega arith, refl, search freed-none)
+
+at-requires : tie.Need-at-requires Inv-loop μ-loop
+at-requires c κs = search needs
 
 lock-at-requires : tie.Need-lock-at-requires Inv-loop μ-loop
 lock-at-requires c κs = (search needs, search freed-below)
@@ -41,8 +45,9 @@ loop-again c =
     let put = c .before .before in
     let freed = put .before .before in
     let read = freed .before in
-    let inv = read .before .before .before .loop .inv in
-    (omega arith, search needs, freed-more _ _ _ _ _ _ (inv .2) (read .lock-at .ensures) (freed .freed-lock .ensures) (put .put-lock-at .ensures))
+    let at = read .before .before in
+    let inv = at .before .before .loop .inv in
+    (omega arith, search needs, freed-more _ _ _ _ _ _ _ (inv .2) (at .at .ensures) (read .lock-at .ensures) (freed .freed-lock .ensures) (put .put-lock-at .ensures))
 
 same-length : tie.Need-same-length Inv-loop μ-loop
 same-length c = search needs
@@ -58,6 +63,7 @@ free-names-spec =
     μ-loop
     count-names-requires
     loop-holds
+    at-requires
     lock-at-requires
     freed-lock-requires
     put-lock-at-requires

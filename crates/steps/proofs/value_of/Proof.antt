@@ -1,40 +1,41 @@
 use borrow.Author.Needs.{needs}
+use Rattle.steps.proofs.Laws.{value-at, value-none}
 use Rattle.steps.proofs.value_of.Statement.{statement}
 use Rattle.steps.proofs.value_of.Tie as tie
 
-enum-known-loose : tie.Need-enum-known-loose
-enum-known-loose c = search needs
+place-requires : tie.Need-place-requires
+place-requires c κs = search needs
 
-enum-told : tie.Need-enum-told
-enum-told c = search needs
+count-names-requires : tie.Need-count-names-requires
+count-names-requires c κs = search needs
+
+returns : tie.Need-returns
+returns c = search value-none
+
+packed-at-requires : tie.Need-packed-at-requires
+packed-at-requires c κs = search needs
 
 packed-value-requires : tie.Need-packed-value-requires
 packed-value-requires c κs = search needs
 
-enum-told-2 : tie.Need-enum-told-2
-enum-told-2 c = search needs
+loose-at-requires : tie.Need-loose-at-requires
+loose-at-requires c κs = search needs
 
-packed-value-requires-2 : tie.Need-packed-value-requires-2
-packed-value-requires-2 c κs = search needs
-
-returns : tie.Need-returns
-returns c = simp (c .before .loose .given .1)
+loose-or-requires : tie.Need-loose-or-requires
+loose-or-requires c κs = search needs
 
 returns-2 : tie.Need-returns-2
-returns-2 c = search needs
-
-returns-3 : tie.Need-returns-3
-returns-3 c = search needs
+returns-2 c = search value-at
 
 pub value-of-spec : {M : Type 1} → statement M
 value-of-spec =
     tie.close
     (tie.spec
-    enum-known-loose
-    enum-told
-    packed-value-requires
-    enum-told-2
-    packed-value-requires-2
+    place-requires
+    count-names-requires
     returns
-    returns-2
-    returns-3)
+    packed-at-requires
+    packed-value-requires
+    loose-at-requires
+    loose-or-requires
+    returns-2)
