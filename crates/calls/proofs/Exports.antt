@@ -1,7 +1,7 @@
 -- What specs/Exports.antt states, proved. Assumes nothing.
 use mathlib.Core.Path.{_≡_, refl, sym, ap, _∙_}
 use mathlib.Core.Bool.{Bool, true, false, cond}
-use mathlib.Core.List.{List}
+use mathlib.Core.List.{List, [], _∷_}
 use mathlib.Core.Option.{Option, none, some}
 use Prim.Native.Nat.{ℕ}
 use native.Mathlib.Omega.{arith}
@@ -20,7 +20,8 @@ use Rattle.model.specs.Reply.Reply.{done, stopped, refused}
 use Rattle.model.specs.Reply.Given.{nothing}
 use Rattle.model.specs.Load.{settingOf, started}
 use Rattle.model.specs.Calls.{step}
-use Rattle.model.specs.Numbers.{answerOf, refusalAnswer}
+use Rattle.model.specs.Numbers.{Answer, answerOf, refusalAnswer}
+use Rattle.answers.specs.declared.Verdict.{Verdict}
 use Rattle.model.specs.Reached.{Reached, leaves}
 use Rattle.model.specs.Reached.Reached.{begun, after}
 use Rattle.model.proofs.Kept.{reached-sound}
@@ -28,14 +29,22 @@ use Rattle.region.specs.Layout.{regionSize}
 use Rattle.region.specs.Region.{image, decode}
 use Rattle.region.proofs.Sized.{length-image}
 use Rattle.region.proofs.Decode.{decoded, decode-image}
-use Rattle.calls.specs.Call.{stepOn, replyTo, regionAfter, Out, outOf, call, Did}
-use Rattle.calls.specs.Exports.{Determined, PartDetermined, Unchanged, GotReached}
+use Rattle.calls.specs.Call.{stepOn, replyTo, regionAfter, Out, outOf, untouched, call, Did}
+use Rattle.calls.specs.Exports.{Determined, BelowDetermined, PartDetermined, Unchanged, GotReached}
 use Rattle.calls.specs.Exports.Got.{begun as got·begun, after as got·after}
 
 -- ---- determined
 
 pub determined : Determined
-determined c r a n n′ a₁ a₂ r₁ r₂ d e = (d .code ∙ sym (e .code), d .answer ∙ sym (e .answer), d .region ∙ sym (e .region))
+determined c r a n n′ a₁ a₂ lent₁ lent₂ d e = (d .code ∙ sym (e .code), d .answer ∙ sym (e .answer), d .lent ∙ sym (e .lent))
+
+-- a verdict is its answer
+verdict : Answer → Verdict
+verdict x = record { number = x .number; places = x .places }
+
+pub below-determined : BelowDetermined
+unfolding verdict
+below-determined c r v v′ r₁ r₂ d e = (ap verdict (d .answer ∙ sym (e .answer)), d .region ∙ sym (e .region))
 
 pub part-determined : PartDetermined
 part-determined n r p q d e = d ∙ sym e
@@ -43,15 +52,15 @@ part-determined n r p q d e = d ∙ sym e
 -- the record's size decides
 abbrev chosen : Bool → Reply → List ℕ → List ℕ → Out
 unfolding outOf
-chosen b reply r a = cond b (outOf reply r) (record { code = 1; answer = a; region = r })
+chosen b reply r a = cond b (outOf reply r) (untouched a (r ∷ []))
 
 -- ---- a refusal changes no byte of the region
 
 pub unchanged : Unchanged
 unfolding call outOf answerOf
-unchanged c r a n a′ r′ d not-done not-16 not-17 = go (eqb (length a) 128) (replyTo c r) (d .code) (d .region)
+unchanged c r a n a′ lent d not-done not-16 not-17 = go (eqb (length a) 128) (replyTo c r) (d .code) (d .lent)
   where
-    go : (b : Bool) (reply : Reply) → n ≡ chosen b reply r a .code → r′ ≡ chosen b reply r a .region → r′ ≡ r
+    go : (b : Bool) (reply : Reply) → n ≡ chosen b reply r a .code → lent ≡ chosen b reply r a .lent → lent ≡ r ∷ []
     go false reply e f = f
     go true (done s given) e f = absurd (not-done e)
     go true (stopped noCommitter s made) e f = absurd (not-16 e)
@@ -59,6 +68,10 @@ unchanged c r a n a′ r′ d not-done not-16 not-17 = go (eqb (length a) 128) (
     go true (refused x) e f = f
 
 -- ---- what is got decodes to a reached store
+
+-- of one lent buffer, what holds of the list holds of it
+only : (r r′ : List ℕ) → r ∷ [] ≡ r′ ∷ [] → r ≡ r′
+only r r′ e = cc
 
 -- a region that decodes has the size that start asks for
 decoded-size : (r : List ℕ) (s : Store) → decode r ≡ some s → length r ≡ regionSize
@@ -92,16 +105,16 @@ reached-image : (r : List ℕ) (s : Store) → Reached s → r ≡ image s → (
 reached-image r s reached e = (s, ap decode e ∙ decode-image s (reached-sound s reached .fine), reached)
 
 -- one call more
-goes-on : (c : Call) (r a : List ℕ) (n : ℕ) (a′ r′ : List ℕ) (s : Store) → decode r ≡ some s → Reached s → Did (call c r a) n a′ r′
+goes-on : (c : Call) (r a : List ℕ) (n : ℕ) (a′ r′ : List ℕ) (s : Store) → decode r ≡ some s → Reached s → Did (call c r a) n a′ (r′ ∷ [])
     → (t : Store) × (decode r′ ≡ some t) × Reached t
 unfolding call outOf
-goes-on c r a n a′ r′ s e reached d = go (eqb (length a) 128) (d .region)
+goes-on c r a n a′ r′ s e reached d = go (eqb (length a) 128) (d .lent)
   where
-    go : (b : Bool) → r′ ≡ chosen b (replyTo c r) r a .region → (t : Store) × (decode r′ ≡ some t) × Reached t
-    go false f = (s, ap decode f ∙ e, reached)
+    go : (b : Bool) → r′ ∷ [] ≡ chosen b (replyTo c r) r a .lent → (t : Store) × (decode r′ ≡ some t) × Reached t
+    go false f = (s, ap decode (only r′ r f) ∙ e, reached)
     go true f =
         reached-image r′ (leaves (step c s) s) (after reached c)
-        (f ∙ ap (λ (reply : Reply). regionAfter reply r) (replies-to c r s e) ∙ left-image (step c s) r s (sym (decoded r s e .1)))
+        (only r′ (regionAfter (replyTo c r) r) f ∙ ap (λ (reply : Reply). regionAfter reply r) (replies-to c r s e) ∙ left-image (step c s) r s (sym (decoded r s e .1)))
 
 -- ---- start
 
@@ -122,22 +135,22 @@ start-replies k r = go (eqb (length r) regionSize)
     go false = refl
     go true = known (settingOf k)
 
-starts : (k : ℕ) (r a a′ r′ : List ℕ) → Did (call (start k) r a) 0 a′ r′ → (t : Store) × (decode r′ ≡ some t) × Reached t
+starts : (k : ℕ) (r a a′ r′ : List ℕ) → Did (call (start k) r a) 0 a′ (r′ ∷ []) → (t : Store) × (decode r′ ≡ some t) × Reached t
 unfolding call outOf answerOf refusalAnswer
 starts k r a a′ r′ d = go (eqb (length a) 128) (eqb (length r) regionSize) (settingOf k) code region
   where
     code : 0 ≡ chosen (eqb (length a) 128) (startReply (eqb (length r) regionSize) (settingOf k)) r a .code
     code = rw (← start-replies k r) (d .code)
 
-    region : r′ ≡ chosen (eqb (length a) 128) (startReply (eqb (length r) regionSize) (settingOf k)) r a .region
-    region = rw (← start-replies k r) (d .region)
+    region : r′ ∷ [] ≡ chosen (eqb (length a) 128) (startReply (eqb (length r) regionSize) (settingOf k)) r a .lent
+    region = rw (← start-replies k r) (d .lent)
 
-    go : (b sized : Bool) (o : Option WriteReflog) → 0 ≡ chosen b (startReply sized o) r a .code → r′ ≡ chosen b (startReply sized o) r a .region
+    go : (b sized : Bool) (o : Option WriteReflog) → 0 ≡ chosen b (startReply sized o) r a .code → r′ ∷ [] ≡ chosen b (startReply sized o) r a .lent
         → (t : Store) × (decode r′ ≡ some t) × Reached t
     go false sized o e f = absurd (omega arith)
     go true false o e f = absurd (omega arith)
     go true true none e f = absurd (omega arith)
-    go true true (some setting) e f = reached-image r′ (empty setting) (begun setting) f
+    go true true (some setting) e f = reached-image r′ (empty setting) (begun setting) (only r′ (image (empty setting)) f)
 
 -- ---- any calls
 

@@ -1,21 +1,44 @@
 -- The test of a name number, whose refusal is 3. Assumes nothing.
-use mathlib.Core.Path.{_≡_}
+use mathlib.Core.Path.{_≡_, refl}
+use mathlib.Core.Bool.{Bool, true, false, cond}
 use mathlib.Core.List.{List}
-use Prim.Native.Nat.{ℕ, _<_, _≤_}
-use borrow.Author.Tests.{lt-ltb, le-ltb}
+use Prim.Native.Nat.{ℕ, _<_}
+use native.Mathlib.Omega.{arith}
+use lib.Dec.{ltb}
+use borrow.Author.Tests.{ltb-true}
+use Rattle.target.specs.declared.NameNumber.{NameNumber}
+use Rattle.target.specs.declared.OptionName.{OptionName}
+use Rattle.target.specs.declared.OptionName.the-variants.{NoName, Name}
+use Rattle.target.specs.Fields.{nameBelow}
 use Rattle.model.specs.declared.Refusal.the-variants.{NotRegistered}
 use Rattle.model.specs.Store.{Store, count}
 use Rattle.model.specs.Outcome.Outcome.{refuse, pass}
 use Rattle.model.specs.Reply.{known}
 use Rattle.region.specs.Region.{view}
 
-module _ (n k : ℕ) (s : Store) (e : k ≡ count s) where
-  pub known-far : k ≤ n → known n s ≡ refuse (NotRegistered n)
-  known-far l = let b : count s ≤ n = rw e at l in rw (le-ltb n (count s) b)
+-- o is the name of the number, if it is registered
+module _ (n : ℕ) (s : Store) (o : OptionName) (e : o ≡ nameBelow (count s) n) where
+  pub known-far : o ≡ NoName → known n s ≡ refuse (NotRegistered n)
+  known-far h = go (ltb n (count s)) refl
+    where
+      go : (b : Bool) → ltb n (count s) ≡ b → known n s ≡ refuse (NotRegistered n)
+      go true p = absurd (let q : o ≡ Name (record { 0 = n }) = rw p at e in let z : _≡_ {A = ℕ} 0 1 = cc in omega arith)
+      go false p = rw p
 
-  pub known-near : n < k → known n s ≡ pass tt
-  known-near l = let b : n < count s = rw e at l in rw (lt-ltb n (count s) b)
+  module _ (m : NameNumber) (h : o ≡ Name m) where
+    is-below : (ltb n (count s) ≡ true) × (m ≡ record { 0 = n })
+    is-below = go (ltb n (count s)) refl
+      where
+        go : (b : Bool) → ltb n (count s) ≡ b → (b ≡ true) × (m ≡ record { 0 = n })
+        go true p = (refl, let q : o ≡ Name (record { 0 = n }) = rw p at e in cc)
+        go false p = absurd (let q : o ≡ NoName = rw p at e in let z : _≡_ {A = ℕ} 0 1 = cc in omega arith)
+
+    pub known-near : known n s ≡ pass tt
+    known-near = rw (is-below .0)
+
+    pub known-as : m ≡ record { 0 = n }
+    known-as = is-below .1
 
 -- what accessors of a name ask for
-pub near : (n k : ℕ) (r : List ℕ) → k ≡ count (view r) → n < k → n < count (view r)
-near n k r e l = rw e at l
+pub near : (n : ℕ) (r : List ℕ) (o : OptionName) (m : NameNumber) → o ≡ nameBelow (count (view r)) n → o ≡ Name m → m .0 < count (view r)
+near n r o m e h = let l : n < count (view r) = ltb-true n (count (view r)) (is-below n (view r) o e m h .0) in rw (is-below n (view r) o e m h .1) l

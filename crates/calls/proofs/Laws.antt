@@ -1,7 +1,7 @@
 -- Start and rollback: what each of their ways out answers. Assumes nothing.
-use mathlib.Core.Path.{_≡_, refl, _∙_}
+use mathlib.Core.Path.{_≡_, refl, ap, _∙_}
 use mathlib.Core.Bool.{Bool, true, false, not}
-use mathlib.Core.List.{List}
+use mathlib.Core.List.{List, [], _∷_}
 use mathlib.Core.Option.{none, some}
 use Prim.Native.Nat.{ℕ, zero, suc}
 use lib.ListN.{length}
@@ -15,10 +15,11 @@ use Rattle.model.specs.Reply.Call.{start, rollback}
 use Rattle.model.specs.Reply.Given.{number}
 use Rattle.model.specs.Calls.{step, rolledBack}
 use Rattle.model.specs.Load.{settingOf, started}
-use Rattle.model.specs.Numbers.{answerOf}
+use Rattle.model.specs.Numbers.{answer, answerOf}
 use Rattle.region.specs.Layout.{regionSize}
 use Rattle.region.specs.Region.{image, view, good, Became}
-use Rattle.answers.specs.declared.Verdict.the-variants.{Done, Number, Refused}
+use Rattle.answers.specs.declared.Verdict.{Verdict}
+use Rattle.answers.specs.Answers.{answerBy}
 use Rattle.calls.specs.declared.OptionSetting.{OptionSetting}
 use Rattle.calls.specs.declared.OptionSetting.the-variants.{NoSetting, Setting}
 use Rattle.calls.specs.Call.{replyTo, Replied, settingOption}
@@ -41,30 +42,32 @@ setting-none (suc zero) a b c = absurd (b refl)
 setting-none (suc (suc zero)) a b c = absurd (c refl)
 setting-none (suc (suc (suc k))) a b c = refl
 
-module _ (k : ℕ) (r : List ℕ) where
-  pub start-size : (length r ≡ regionSize → ⊥) → Replied (Refused 1 0) r r (replyTo (start k) r)
+module _ (k : ℕ) (r : List ℕ) (v : Verdict) where
+  pub start-size : (length r ≡ regionSize → ⊥) → answerBy v ≡ answer 1 [] → Replied v r r (replyTo (start k) r)
   unfolding replyTo
-  start-size h = refuses (start k) r BadRegion 1 0 no-1 (rw (ne-eqb (length r) regionSize h))
+  start-size h a = refuses (start k) r BadRegion v (a ∙ no-1) (rw (ne-eqb (length r) regionSize h))
 
   module _ (e : length r ≡ regionSize) (o : OptionSetting) (is : settingOption o ≡ settingOf k) where
     starts : replyTo (start k) r ≡ started k
     unfolding replyTo step
     starts = rw (eq-eqb (length r) regionSize e)
 
-    pub start-malformed : o ≡ NoSetting → Replied (Refused 2 0) r r (replyTo (start k) r)
+    pub start-malformed : o ≡ NoSetting → answerBy v ≡ answer 2 [] → Replied v r r (replyTo (start k) r)
     unfolding started
-    start-malformed h = refuses (start k) r Malformed 2 0 no-2 (starts ∙ (rw (← is, h)))
+    start-malformed h a = refuses (start k) r Malformed v (a ∙ no-2) (starts ∙ (rw (← is, h)))
 
-    pub start-done : (s : WriteReflog) (r′ : List ℕ) → o ≡ Setting s → r′ ≡ image (empty s) → Replied Done r r′ (replyTo (start k) r)
+    pub start-done : (s : WriteReflog) (r′ : List ℕ) → o ≡ Setting s → r′ ≡ image (empty s) → answerBy v ≡ answer 0 []
+        → Replied v r r′ (replyTo (start k) r)
     unfolding started answerOf
-    start-done s r′ h i = rw (starts, ← is, h) (record { answer = refl; region = i })
+    start-done s r′ h i a = rw (starts, ← is, h) (record { answer = a; region = i })
 
 -- ---- rollback
 
-pub rollback-bad : (r : List ℕ) (ok : Bool) → ok ≡ good r → not ok ≡ true → Replied (Refused 1 0) r r (replyTo rollback r)
-rollback-bad r ok is n = bad-region rollback r ok is refl n
+pub rollback-bad : (r : List ℕ) (ok : Bool) (v : Verdict) → ok ≡ good r → not ok ≡ true → answerBy v ≡ answer 1 [] → Replied v r r (replyTo rollback r)
+rollback-bad r ok v is n a = bad-region rollback r ok is refl v n a
 
-pub rollback-done : (r r′ : List ℕ) (ok : Bool) (k : ℕ) → ok ≡ good r → not ok ≡ false → k ≡ length (rowsIn (view r .prepared))
-    → Became r′ (released (view r)) → Replied (Number k) r r′ (replyTo rollback r)
+pub rollback-done : (r r′ : List ℕ) (ok : Bool) (k : ℕ) (v : Verdict) → ok ≡ good r → not ok ≡ false → k ≡ length (rowsIn (view r .prepared))
+    → Became r′ (released (view r)) → answerBy v ≡ answer 0 (k ∷ []) → Replied v r r′ (replyTo rollback r)
 unfolding step rolledBack
-rollback-done r r′ ok k is y e b = rw e (says-done rollback r ok is refl y (Number _) (released (view r)) (number _) r′ refl refl b)
+rollback-done r r′ ok k v is y e b a =
+    says-done rollback r ok is refl y v (released (view r)) (number _) r′ refl (a ∙ ap (λ (k : ℕ). answer 0 (k ∷ [])) e) b

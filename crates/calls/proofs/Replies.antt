@@ -1,6 +1,6 @@
 -- The ways in which a call can answer, one law for each, whatever the call. Assumes nothing.
 use mathlib.Core.Path.{_≡_, refl, sym, ap, _∙_}
-use mathlib.Core.Bool.{Bool, true, false, not}
+use mathlib.Core.Bool.{Bool, true, false, not, cond}
 use mathlib.Core.List.{List, [], _∷_}
 use Prim.Native.Nat.{ℕ}
 use borrow.Author.Tests.{not-true, not-false}
@@ -14,9 +14,8 @@ use Rattle.model.specs.Numbers.{answer, answerOf, givenPlaces, refusalAnswer}
 use Rattle.region.specs.Region.{view, decode, good, nameOffset, Laid, Became}
 use Rattle.region.proofs.Decode.{decode-good, decode-bad, good-parts, laid, laid-image, became-image}
 use Rattle.answers.specs.declared.Verdict.{Verdict}
-use Rattle.answers.specs.declared.Verdict.the-variants.{Refused}
 use Rattle.answers.specs.Answers.{answerBy}
-use Rattle.calls.specs.Call.{found, stepOn, replyTo, Replied}
+use Rattle.calls.specs.Call.{sized, isStart, found, stepOn, replyTo, Replied}
 
 -- a good region is laid out so
 pub good-laid : (r : List ℕ) (ok : Bool) → ok ≡ good r → not ok ≡ false → Laid r
@@ -24,63 +23,65 @@ good-laid r ok is y = laid r (good-parts r (sym is ∙ not-false ok y) .0)
 
 -- ---- the number of each refusal that these calls give, and what stands in its place 0
 
-pub no-1 : refusalAnswer BadRegion ≡ answer 1 (0 ∷ [])
+pub no-1 : answer 1 [] ≡ refusalAnswer BadRegion
 unfolding refusalAnswer
 no-1 = refl
 
-pub no-2 : refusalAnswer Malformed ≡ answer 2 (0 ∷ [])
+pub no-2 : answer 2 [] ≡ refusalAnswer Malformed
 unfolding refusalAnswer
 no-2 = refl
 
-pub no-3 : (n : ℕ) → refusalAnswer (NotRegistered n) ≡ answer 3 (n ∷ [])
+pub no-3 : (n : ℕ) → answer 3 (n ∷ []) ≡ refusalAnswer (NotRegistered n)
 unfolding refusalAnswer
 no-3 n = refl
 
-pub no-15 : refusalAnswer WrongState ≡ answer 15 (0 ∷ [])
+pub no-15 : answer 15 [] ≡ refusalAnswer WrongState
 unfolding refusalAnswer
 no-15 = refl
 
-pub no-18 : refusalAnswer BadName ≡ answer 18 (0 ∷ [])
+pub no-18 : answer 18 [] ≡ refusalAnswer BadName
 unfolding refusalAnswer
 no-18 = refl
 
-pub no-19 : refusalAnswer NamesFull ≡ answer 19 (0 ∷ [])
+pub no-19 : answer 19 [] ≡ refusalAnswer NamesFull
 unfolding refusalAnswer
 no-19 = refl
 
-pub no-20 : refusalAnswer WrongLock ≡ answer 20 (0 ∷ [])
+pub no-20 : answer 20 [] ≡ refusalAnswer WrongLock
 unfolding refusalAnswer
 no-20 = refl
 
-pub no-21 : refusalAnswer BadLoad ≡ answer 21 (0 ∷ [])
+pub no-21 : answer 21 [] ≡ refusalAnswer BadLoad
 unfolding refusalAnswer
 no-21 = refl
 
-pub no-22 : refusalAnswer NothingThere ≡ answer 22 (0 ∷ [])
+pub no-22 : answer 22 [] ≡ refusalAnswer NothingThere
 unfolding refusalAnswer
 no-22 = refl
 
 -- ---- the ways to answer
 
--- a refusal, with the region as it is. n and p are its number and what stands in its place 0
-pub refuses : (c : Call) (r : List ℕ) (x : Refusal) (n p : ℕ) → refusalAnswer x ≡ answer n (p ∷ []) → replyTo c r ≡ refused x
-    → Replied (Refused n p) r r (replyTo c r)
+-- a refusal, with the region as it is
+pub refuses : (c : Call) (r : List ℕ) (x : Refusal) (v : Verdict) → answerBy v ≡ refusalAnswer x → replyTo c r ≡ refused x
+    → Replied v r r (replyTo c r)
 unfolding answerOf
-refuses c r x n p a e = rw e (record { answer = sym a; region = refl })
+refuses c r x v a e = rw e (record { answer = a; region = refl })
 
-module _ (c : Call) (r : List ℕ) (ok : Bool) (is : ok ≡ good r) (looks : found c r ≡ decode r) where
-  pub bad-region : not ok ≡ true → Replied (Refused 1 0) r r (replyTo c r)
+module _ (c : Call) (r : List ℕ) (ok : Bool) (is : ok ≡ good r) (looks : isStart c ≡ false) where
+  finds : found c r ≡ decode r
+  finds = ap (λ (b : Bool). cond b (sized r) (decode r)) looks
+
+  pub bad-region : (v : Verdict) → not ok ≡ true → answerBy v ≡ answer 1 [] → Replied v r r (replyTo c r)
   unfolding replyTo
-  bad-region n = refuses c r BadRegion 1 0 no-1 (ap (stepOn c) (looks ∙ decode-bad r (sym is ∙ not-true ok n)))
+  bad-region v n a = refuses c r BadRegion v (a ∙ no-1) (ap (stepOn c) (finds ∙ decode-bad r (sym is ∙ not-true ok n)))
 
   module _ (y : not ok ≡ false) where
     pub replies : replyTo c r ≡ step c (view r)
     unfolding replyTo
-    replies = ap (stepOn c) (looks ∙ decode-good r (sym is ∙ not-false ok y))
+    replies = ap (stepOn c) (finds ∙ decode-good r (sym is ∙ not-false ok y))
 
-    pub says-no : (x : Refusal) (n p : ℕ) → refusalAnswer x ≡ answer n (p ∷ []) → step c (view r) ≡ refused x
-        → Replied (Refused n p) r r (replyTo c r)
-    says-no x n p a e = refuses c r x n p a (replies ∙ e)
+    pub says-no : (x : Refusal) (v : Verdict) → answerBy v ≡ refusalAnswer x → step c (view r) ≡ refused x → Replied v r r (replyTo c r)
+    says-no x v a e = refuses c r x v a (replies ∙ e)
 
     -- done, and the region became that of the new store
     pub says-done : (v : Verdict) (s : Store) (g : Given) (r′ : List ℕ) → step c (view r) ≡ done s g

@@ -16,7 +16,6 @@ use Rattle.model.specs.Load.{Lockable, knownLock, lockOf, setLock, placed, lift
 use Rattle.steps.specs.declared.Turned.{Turned}
 use Rattle.steps.specs.declared.Turned.the-variants as turned
 use Rattle.steps.specs.Steps.{placedOn, liftedFrom}
-use Rattle.answers.specs.declared.Verdict.the-variants.{Refused}
 
 -- ---- what a lock becomes is what the model's call does with it
 

@@ -1,7 +1,7 @@
 -- What every call does with a region and an answer record, by what the model's step does to a store: one shape for all calls.
 use mathlib.Core.Path.{_≡_}
-use mathlib.Core.Bool.{cond}
-use mathlib.Core.List.{List}
+use mathlib.Core.Bool.{Bool, true, false, cond}
+use mathlib.Core.List.{List, [], _∷_}
 use mathlib.Core.Option.{Option, none, some}
 use Prim.Native.Nat.{ℕ}
 use lib.ListN.{length, getD}
@@ -19,8 +19,7 @@ use Rattle.model.specs.Numbers.{answerOf}
 use Rattle.region.specs.Layout.{regionSize}
 use Rattle.region.specs.Region.{image, decode, nameOffset}
 use Rattle.answers.specs.declared.Verdict.{Verdict}
-use Rattle.answers.specs.declared.RowVerdict.{RowVerdict}
-use Rattle.answers.specs.Answers.{recordOf, answerBy, rowAnswerBy}
+use Rattle.answers.specs.Answers.{recordOf, answerBy}
 use Rattle.calls.specs.declared.OptionSetting.{OptionSetting}
 use Rattle.calls.specs.declared.OptionSetting.the-variants.{NoSetting, Setting}
 
@@ -30,23 +29,26 @@ use Rattle.calls.specs.declared.OptionSetting.the-variants.{NoSetting, S
 abbrev pub sized : List ℕ → Option Store
 sized r = cond (eqb (length r) regionSize) (some (empty Disable)) none
 
+abbrev pub isStart : Call → Bool
+isStart (start k) = true
+isStart (addName bytes) = false
+isStart (nameBytes n) = false
+isStart (loadLoose n kind x) = false
+isStart (loadPacked n kind x) = false
+isStart (lockName n) = false
+isStart (unlockName n) = false
+isStart lockPacked = false
+isStart unlockPacked = false
+isStart (prepare list mode) = false
+isStart (commit committer allowance) = false
+isStart rollback = false
+isStart (readName n) = false
+isStart (readLine n place) = false
+isStart (readRow place) = false
+
 -- the store that a call finds in a region
 abbrev pub found : Call → List ℕ → Option Store
-found (start k) r = sized r
-found (addName bytes) r = decode r
-found (nameBytes n) r = decode r
-found (loadLoose n kind x) r = decode r
-found (loadPacked n kind x) r = decode r
-found (lockName n) r = decode r
-found (unlockName n) r = decode r
-found lockPacked r = decode r
-found unlockPacked r = decode r
-found (prepare list mode) r = decode r
-found (commit committer allowance) r = decode r
-found rollback r = decode r
-found (readName n) r = decode r
-found (readLine n place) r = decode r
-found (readRow place) r = decode r
+found c r = cond (isStart c) (sized r) (decode r)
 
 -- 1: a region that holds no store
 abbrev pub stepOn : Call → Option Store → Reply
@@ -62,40 +64,38 @@ regionAfter (done s given) r = image s
 regionAfter (stopped why s made) r = image s
 regionAfter (refused x) r = r
 
--- ---- what the caller gets: the number, the answer record and the region
+-- ---- what the caller gets: the number, the answer record, and the buffers that it lent, the region first
 
 pub record Out : Type 0 where
   pub code : ℕ
   pub answer : List ℕ
-  pub region : List ℕ
+  pub lent : List (List ℕ)
 
 unfoldable pub outOf : Reply → List ℕ → Out
 outOf reply r = record {
   code = answerOf nameOffset reply .number;
   answer = recordOf (answerOf nameOffset reply .places);
-  region = regionAfter reply r;
+  lent = regionAfter reply r ∷ [];
 }
 
 -- a record of another size: 1, and nothing is written anywhere
-unfoldable pub call : Call → List ℕ → List ℕ → Out
-call c r a = cond (eqb (length a) 128) (outOf (replyTo c r) r) (record { code = 1; answer = a; region = r })
+abbrev pub untouched : List ℕ → List (List ℕ) → Out
+untouched a lent = record { code = 1; answer = a; lent = lent }
 
--- the contract of every exported call
-pub record Did (o : Out) (n : ℕ) (a r : List ℕ) : Type 0 where
+unfoldable pub call : Call → List ℕ → List ℕ → Out
+call c r a = cond (eqb (length a) 128) (outOf (replyTo c r) r) (untouched a (r ∷ []))
+
+-- the contract of every exported call: its number, the record and the lent buffers as it leaves them
+pub record Did (o : Out) (n : ℕ) (a : List ℕ) (buffers : List (List ℕ)) : Type 0 where
   pub code : n ≡ o .code
   pub answer : a ≡ o .answer
-  pub region : r ≡ o .region
+  pub lent : buffers ≡ o .lent
 
 -- ---- below the exports
 
 -- the contract of the function on plain values below each exported call
 pub record Replied (v : Verdict) (r r′ : List ℕ) (reply : Reply) : Type 0 where
   pub answer : answerBy v ≡ answerOf nameOffset reply
-  pub region : r′ ≡ regionAfter reply r
-
--- the same of the function that reads a row, which has a verdict of its own
-pub record RepliedRow (v : RowVerdict) (r r′ : List ℕ) (reply : Reply) : Type 0 where
-  pub answer : rowAnswerBy v ≡ answerOf nameOffset reply
   pub region : r′ ≡ regionAfter reply r
 
 -- ---- the bytes of a name, handed back as a part of the region: what stands at the offset and length that name_bytes answers. A

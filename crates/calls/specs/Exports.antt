@@ -1,7 +1,7 @@
 -- What is proved of every call that keeps the contract `Did (call c r a)`, whatever the call. Every exported call has it. The
 -- proofs stand in proofs/Exports.antt.
 use mathlib.Core.Path.{_≡_}
-use mathlib.Core.List.{List}
+use mathlib.Core.List.{List, [], _∷_}
 use mathlib.Core.Option.{some}
 use Prim.Native.Nat.{ℕ}
 use Rattle.model.specs.Store.{Store}
@@ -9,38 +9,47 @@ use Rattle.model.specs.Reply.{Call}
 use Rattle.model.specs.Reply.Call.{start}
 use Rattle.model.specs.Reached.{Reached}
 use Rattle.region.specs.Region.{decode}
-use Rattle.calls.specs.Call.{call, Did, namePart}
+use Rattle.answers.specs.declared.Verdict.{Verdict}
+use Rattle.calls.specs.Call.{replyTo, call, Did, Replied, namePart}
 
 -- ---- determined: two results that satisfy the contract are equal
 
 abbrev pub Determined : Type 0
 Determined =
-    (c : Call) (r a : List ℕ) (n n′ : ℕ) (a₁ a₂ r₁ r₂ : List ℕ)
-    → Did (call c r a) n a₁ r₁
-    → Did (call c r a) n′ a₂ r₂
-    → (n ≡ n′) × (a₁ ≡ a₂) × (r₁ ≡ r₂)
+    (c : Call) (r a : List ℕ) (n n′ : ℕ) (a₁ a₂ : List ℕ) (lent₁ lent₂ : List (List ℕ))
+    → Did (call c r a) n a₁ lent₁
+    → Did (call c r a) n′ a₂ lent₂
+    → (n ≡ n′) × (a₁ ≡ a₂) × (lent₁ ≡ lent₂)
+
+-- so are two results of the functions below the exports
+abbrev pub BelowDetermined : Type 0
+BelowDetermined =
+    (c : Call) (r : List ℕ) (v v′ : Verdict) (r₁ r₂ : List ℕ)
+    → Replied v r r₁ (replyTo c r)
+    → Replied v′ r r₂ (replyTo c r)
+    → (v ≡ v′) × (r₁ ≡ r₂)
 
 -- the contract of the function that returns the part of a name
 abbrev pub PartDetermined : Type 0
 PartDetermined = (n : ℕ) (r p q : List ℕ) → p ≡ namePart n r → q ≡ namePart n r → p ≡ q
 
--- ---- a refusal changes no byte of the region: 0 is done, 16 and 17 are a commit stopped part way
+-- ---- a refusal changes no byte of a lent buffer: 0 is done, 16 and 17 are a commit stopped part way
 
 abbrev pub Unchanged : Type 0
 Unchanged =
-    (c : Call) (r a : List ℕ) (n : ℕ) (a′ r′ : List ℕ)
-    → Did (call c r a) n a′ r′
+    (c : Call) (r a : List ℕ) (n : ℕ) (a′ : List ℕ) (lent : List (List ℕ))
+    → Did (call c r a) n a′ lent
     → (n ≡ 0 → ⊥)
     → (n ≡ 16 → ⊥)
     → (n ≡ 17 → ⊥)
-    → r′ ≡ r
+    → lent ≡ r ∷ []
 
 -- ---- what is got from any bytes by start and then any calls
 
 -- refused calls and records of any size included
 pub data Got : List ℕ → Type 0 where
-  begun : (setting : ℕ) (r a a′ r′ : List ℕ) → Did (call (start setting) r a) 0 a′ r′ → Got r′
-  after : {r : List ℕ} → Got r → (c : Call) (n : ℕ) (a a′ r′ : List ℕ) → Did (call c r a) n a′ r′ → Got r′
+  begun : (setting : ℕ) (r a a′ r′ : List ℕ) → Did (call (start setting) r a) 0 a′ (r′ ∷ []) → Got r′
+  after : {r : List ℕ} → Got r → (c : Call) (n : ℕ) (a a′ r′ : List ℕ) → Did (call c r a) n a′ (r′ ∷ []) → Got r′
 
 -- decodes to a reached store
 abbrev pub GotReached : Type 0

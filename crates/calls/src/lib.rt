@@ -32,13 +32,13 @@ pub fn start_with(region: &mut [u8], setting: u64) -> Verdict
     ensures { λ r. ⌜ Replied r (now (region .entry)) (now (region .exit)) (replyTo (start setting) (now (region .entry))) ⌝ }
 {
     if region.len() != Layout::SIZE {
-        return Verdict::Refused(Answer::BAD_REGION, 0);
+        return Verdict::bare(Answer::BAD_REGION);
     }
     let OptionSetting::Setting(s) = setting_of(setting) else {
-        return Verdict::Refused(Answer::MALFORMED, 0);
+        return Verdict::bare(Answer::MALFORMED);
     };
-    region::make_empty(region, s);
-    Verdict::Done
+    writers::make_empty(region, s);
+    Verdict::bare(Answer::DONE)
 }
 
 // ---- rollback
@@ -48,9 +48,9 @@ pub fn roll_back(region: &mut [u8]) -> Verdict
     ensures { λ r. ⌜ Replied r (now (region .entry)) (now (region .exit)) (replyTo rollback (now (region .entry))) ⌝ }
 {
     if !good::is_good(region) {
-        return Verdict::Refused(Answer::BAD_REGION, 0);
+        return Verdict::bare(Answer::BAD_REGION);
     }
     let rows = region::count_rows(region);
     steps::release(region);
-    Verdict::Number(rows as u64)
+    Verdict::one(Answer::DONE, rows as u64)
 }

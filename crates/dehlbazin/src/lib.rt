@@ -1,5 +1,6 @@
 // The calls that a foreign program links. Each tests the answer record's size, makes the call and fills the record; its contract
-// fixes the number, every byte of the record and every byte of the region.
+// fixes the number, every byte of the record and every byte of what is lent, the region first.
+ghost use mathlib.Core.List.{[], _∷_};
 ghost use Rattle.model.specs.Reply.Call.{start, addName, nameBytes, loadLoose, loadPacked, lockName, unlockName};
 ghost use Rattle.model.specs.Reply.Call.{lockPacked, unlockPacked, rollback, readName, readLine, readRow};
 ghost use Rattle.calls.specs.Call.{call, Did};
@@ -8,10 +9,10 @@ use answers::Answer;
 // Makes an empty store, whatever the region held.
 #[no_mangle]
 pub extern "C" fn dehlbazin_start(region: &mut [u8], setting: u64, answer: &mut [u8]) -> u32
-    ensures { λ r. ⌜ Did (call (start setting) (now (region .entry)) (now (answer .entry))) r (now (answer .exit)) (now (region .exit)) ⌝ }
+    ensures { λ r. ⌜ Did (call (start setting) (now (region .entry)) (now (answer .entry))) r (now (answer .exit)) (now (region .exit) ∷ []) ⌝ }
 {
     if answer.len() != Answer::SIZE {
-        return 1;
+        return Answer::BAD_REGION;
     }
     let verdict = calls::start_with(region, setting);
     answers::finish(answer, verdict)
@@ -20,10 +21,10 @@ pub extern "C" fn dehlbazin_start(region: &mut [u8], setting: u64, answer: &mut 
 // Adds a name, or finds it: its number.
 #[no_mangle]
 pub extern "C" fn dehlbazin_add_name(region: &mut [u8], name: &[u8], answer: &mut [u8]) -> u32
-    ensures { λ r. ⌜ Did (call (addName (now (name .entry))) (now (region .entry)) (now (answer .entry))) r (now (answer .exit)) (now (region .exit)) ⌝ }
+    ensures { λ r. ⌜ Did (call (addName (now (name .entry))) (now (region .entry)) (now (answer .entry))) r (now (answer .exit)) (now (region .exit) ∷ []) ⌝ }
 {
     if answer.len() != Answer::SIZE {
-        return 1;
+        return Answer::BAD_REGION;
     }
     let verdict = naming::add_name(region, name);
     answers::finish(answer, verdict)
@@ -32,10 +33,10 @@ pub extern "C" fn dehlbazin_add_name(region: &mut [u8], name: &[u8], answer: &mu
 // Where the bytes of a name stand in the region: offset and length.
 #[no_mangle]
 pub extern "C" fn dehlbazin_name_bytes(region: &[u8], name: u64, answer: &mut [u8]) -> u32
-    ensures { λ r. ⌜ Did (call (nameBytes name) (now (region .entry)) (now (answer .entry))) r (now (answer .exit)) (now (region .entry)) ⌝ }
+    ensures { λ r. ⌜ Did (call (nameBytes name) (now (region .entry)) (now (answer .entry))) r (now (answer .exit)) (now (region .entry) ∷ []) ⌝ }
 {
     if answer.len() != Answer::SIZE {
-        return 1;
+        return Answer::BAD_REGION;
     }
     let verdict = naming::name_bytes(region, name);
     answers::finish(answer, verdict)
@@ -50,10 +51,10 @@ pub extern "C" fn dehlbazin_load_loose(
     number: u64,
     answer: &mut [u8],
 ) -> u32
-    ensures { λ r. ⌜ Did (call (loadLoose name kind number) (now (region .entry)) (now (answer .entry))) r (now (answer .exit)) (now (region .exit)) ⌝ }
+    ensures { λ r. ⌜ Did (call (loadLoose name kind number) (now (region .entry)) (now (answer .entry))) r (now (answer .exit)) (now (region .exit) ∷ []) ⌝ }
 {
     if answer.len() != Answer::SIZE {
-        return 1;
+        return Answer::BAD_REGION;
     }
     let verdict = loads::load_loose(region, name, kind, number);
     answers::finish(answer, verdict)
@@ -68,10 +69,10 @@ pub extern "C" fn dehlbazin_load_packed(
     number: u64,
     answer: &mut [u8],
 ) -> u32
-    ensures { λ r. ⌜ Did (call (loadPacked name kind number) (now (region .entry)) (now (answer .entry))) r (now (answer .exit)) (now (region .exit)) ⌝ }
+    ensures { λ r. ⌜ Did (call (loadPacked name kind number) (now (region .entry)) (now (answer .entry))) r (now (answer .exit)) (now (region .exit) ∷ []) ⌝ }
 {
     if answer.len() != Answer::SIZE {
-        return 1;
+        return Answer::BAD_REGION;
     }
     let verdict = loads::load_packed(region, name, kind, number);
     answers::finish(answer, verdict)
@@ -80,10 +81,10 @@ pub extern "C" fn dehlbazin_load_packed(
 // Places a foreign lock on a name.
 #[no_mangle]
 pub extern "C" fn dehlbazin_lock_name(region: &mut [u8], name: u64, answer: &mut [u8]) -> u32
-    ensures { λ r. ⌜ Did (call (lockName name) (now (region .entry)) (now (answer .entry))) r (now (answer .exit)) (now (region .exit)) ⌝ }
+    ensures { λ r. ⌜ Did (call (lockName name) (now (region .entry)) (now (answer .entry))) r (now (answer .exit)) (now (region .exit) ∷ []) ⌝ }
 {
     if answer.len() != Answer::SIZE {
-        return 1;
+        return Answer::BAD_REGION;
     }
     let verdict = locks::lock_name(region, name);
     answers::finish(answer, verdict)
@@ -92,10 +93,10 @@ pub extern "C" fn dehlbazin_lock_name(region: &mut [u8], name: u64, answer: &mut
 // Lifts a foreign lock from a name.
 #[no_mangle]
 pub extern "C" fn dehlbazin_unlock_name(region: &mut [u8], name: u64, answer: &mut [u8]) -> u32
-    ensures { λ r. ⌜ Did (call (unlockName name) (now (region .entry)) (now (answer .entry))) r (now (answer .exit)) (now (region .exit)) ⌝ }
+    ensures { λ r. ⌜ Did (call (unlockName name) (now (region .entry)) (now (answer .entry))) r (now (answer .exit)) (now (region .exit) ∷ []) ⌝ }
 {
     if answer.len() != Answer::SIZE {
-        return 1;
+        return Answer::BAD_REGION;
     }
     let verdict = locks::unlock_name(region, name);
     answers::finish(answer, verdict)
@@ -104,34 +105,34 @@ pub extern "C" fn dehlbazin_unlock_name(region: &mut [u8], name: u64, answer: &m
 // Places a foreign lock on the packed table.
 #[no_mangle]
 pub extern "C" fn dehlbazin_lock_packed(region: &mut [u8], answer: &mut [u8]) -> u32
-    ensures { λ r. ⌜ Did (call lockPacked (now (region .entry)) (now (answer .entry))) r (now (answer .exit)) (now (region .exit)) ⌝ }
+    ensures { λ r. ⌜ Did (call lockPacked (now (region .entry)) (now (answer .entry))) r (now (answer .exit)) (now (region .exit) ∷ []) ⌝ }
 {
     if answer.len() != Answer::SIZE {
-        return 1;
+        return Answer::BAD_REGION;
     }
-    let verdict = table_lock::lock_packed(region);
+    let verdict = locks::lock_packed(region);
     answers::finish(answer, verdict)
 }
 
 // Lifts a foreign lock from the packed table.
 #[no_mangle]
 pub extern "C" fn dehlbazin_unlock_packed(region: &mut [u8], answer: &mut [u8]) -> u32
-    ensures { λ r. ⌜ Did (call unlockPacked (now (region .entry)) (now (answer .entry))) r (now (answer .exit)) (now (region .exit)) ⌝ }
+    ensures { λ r. ⌜ Did (call unlockPacked (now (region .entry)) (now (answer .entry))) r (now (answer .exit)) (now (region .exit) ∷ []) ⌝ }
 {
     if answer.len() != Answer::SIZE {
-        return 1;
+        return Answer::BAD_REGION;
     }
-    let verdict = table_lock::unlock_packed(region);
+    let verdict = locks::unlock_packed(region);
     answers::finish(answer, verdict)
 }
 
 // Forgets the prepared transaction and frees its locks: how many rows it had.
 #[no_mangle]
 pub extern "C" fn dehlbazin_rollback(region: &mut [u8], answer: &mut [u8]) -> u32
-    ensures { λ r. ⌜ Did (call rollback (now (region .entry)) (now (answer .entry))) r (now (answer .exit)) (now (region .exit)) ⌝ }
+    ensures { λ r. ⌜ Did (call rollback (now (region .entry)) (now (answer .entry))) r (now (answer .exit)) (now (region .exit) ∷ []) ⌝ }
 {
     if answer.len() != Answer::SIZE {
-        return 1;
+        return Answer::BAD_REGION;
     }
     let verdict = calls::roll_back(region);
     answers::finish(answer, verdict)
@@ -140,10 +141,10 @@ pub extern "C" fn dehlbazin_rollback(region: &mut [u8], answer: &mut [u8]) -> u3
 // What a name reads.
 #[no_mangle]
 pub extern "C" fn dehlbazin_read_name(region: &[u8], name: u64, answer: &mut [u8]) -> u32
-    ensures { λ r. ⌜ Did (call (readName name) (now (region .entry)) (now (answer .entry))) r (now (answer .exit)) (now (region .entry)) ⌝ }
+    ensures { λ r. ⌜ Did (call (readName name) (now (region .entry)) (now (answer .entry))) r (now (answer .exit)) (now (region .entry) ∷ []) ⌝ }
 {
     if answer.len() != Answer::SIZE {
-        return 1;
+        return Answer::BAD_REGION;
     }
     let verdict = reads::read_name(region, name);
     answers::finish(answer, verdict)
@@ -157,10 +158,10 @@ pub extern "C" fn dehlbazin_read_line(
     place: u64,
     answer: &mut [u8],
 ) -> u32
-    ensures { λ r. ⌜ Did (call (readLine name place) (now (region .entry)) (now (answer .entry))) r (now (answer .exit)) (now (region .entry)) ⌝ }
+    ensures { λ r. ⌜ Did (call (readLine name place) (now (region .entry)) (now (answer .entry))) r (now (answer .exit)) (now (region .entry) ∷ []) ⌝ }
 {
     if answer.len() != Answer::SIZE {
-        return 1;
+        return Answer::BAD_REGION;
     }
     let verdict = reads::read_line(region, name, place);
     answers::finish(answer, verdict)
@@ -169,11 +170,11 @@ pub extern "C" fn dehlbazin_read_line(
 // A row of the prepared transaction.
 #[no_mangle]
 pub extern "C" fn dehlbazin_read_row(region: &[u8], place: u64, answer: &mut [u8]) -> u32
-    ensures { λ r. ⌜ Did (call (readRow place) (now (region .entry)) (now (answer .entry))) r (now (answer .exit)) (now (region .entry)) ⌝ }
+    ensures { λ r. ⌜ Did (call (readRow place) (now (region .entry)) (now (answer .entry))) r (now (answer .exit)) (now (region .entry) ∷ []) ⌝ }
 {
     if answer.len() != Answer::SIZE {
-        return 1;
+        return Answer::BAD_REGION;
     }
     let verdict = reads::read_row(region, place);
-    answers::finish_row(answer, verdict)
+    answers::finish(answer, verdict)
 }

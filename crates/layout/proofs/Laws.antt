@@ -29,9 +29,11 @@ use Rattle.model.specs.declared.Lock.{Lock}
 use Rattle.transaction.specs.declared.Edit.{Edit}
 use Rattle.slots.specs.Values.{looseIn, looseOption, lockIn, lockOption}
 use Rattle.slots.specs.Row.{rowIn, rowOption}
+use Rattle.region.specs.Layout.{versionAt, restAt, settingAt, namesAt, linesAt, modeAt, rowsAt, packedLockAt, regionSize, restSize}
+use Rattle.region.specs.Layout.{nameBase, nameWidth, looseBase, looseWidth, packedBase, packedWidth, lockBase, lockWidth, rowBase, rowWidth, lineBase, lineWidth}
 use Rattle.region.specs.Region.{nameCount, lineCount, modeNumber, rowCount, layoutTests, layout}
 use Rattle.layout.specs.declared.Table.{Table}
-use Rattle.layout.specs.declared.Table.the-variants.{Names, Looses, Locks, Rows}
+use Rattle.layout.specs.declared.Table.the-variants.{Names, Looses, Packeds, Locks, Rows, Lines}
 use Rattle.layout.specs.Tables.{widthOf, testOf, headTests, countTests, tableTests}
 
 -- ---- lists of tests
@@ -90,16 +92,16 @@ module _ (s : List ℕ) where
 
   module _ (t : Table) where
     module _ (e : length s ≡ widthOf t) where
-      pub names-wide : t ≡ Names → length s ≡ 65
+      pub names-wide : t ≡ Names → length s ≡ nameWidth
       names-wide q = e ∙ ap widthOf q
 
-      pub looses-wide : t ≡ Looses → length s ≡ 9
+      pub looses-wide : t ≡ Looses → length s ≡ looseWidth
       looses-wide q = e ∙ ap widthOf q
 
-      pub locks-wide : t ≡ Locks → length s ≡ 1
+      pub locks-wide : t ≡ Locks → length s ≡ lockWidth
       locks-wide q = e ∙ ap widthOf q
 
-      pub rows-wide : t ≡ Rows → length s ≡ 36
+      pub rows-wide : t ≡ Rows → length s ≡ rowWidth
       rows-wide q = e ∙ ap widthOf q
 
     module _ (b : Bool) where
@@ -133,7 +135,7 @@ lent : (a w : ℕ) → a + w - a ≡ w
 lent a w = omega arith
 
 module _ (r : List ℕ) (base w c i : ℕ) (h : i < c) (g : base + c * w ≤ length r) where
-  module _ (e : length r ≡ 49549) where
+  module _ (e : length r ≡ regionSize) where
     pub slot-offset : Fits w64 (i * w)
     slot-offset = let f : base + i * w + w ≤ length r = slot-end base w c i r h g in record { fits = omega arith }
 
@@ -172,50 +174,50 @@ pub rows-busy : (m : ℕ) → (m ≡ 0 → ⊥) → _≡_ {A = ℕ} 160 (cond (e
 rows-busy m e = ap (λ (t : Bool). cond t 0 160) (sym (ne-eqb m 0 e))
 
 module _ (r : List ℕ) where
-  module _ (m : ℕ) (e : m ≡ val (cut 10 1 r)) where
+  module _ (m : ℕ) (e : m ≡ val (cut modeAt 1 r)) where
     pub mode-bad : 3 < m → false ≡ every (countTests r)
-    unfolding countTests modeNumber
+    unfolding countTests layoutTests modeNumber
     mode-bad h = sym (every-false (countTests r) 0 (lt-leb _ _ (rw e at h)))
 
-    module _ (x b : ℕ) (f : x ≡ val (cut 11 1 r)) (p : b ≡ cond (eqb m 0) 0 160) where
+    module _ (x b : ℕ) (f : x ≡ val (cut rowsAt 1 r)) (p : b ≡ cond (eqb m 0) 0 160) where
       rows-is : leb (rowCount r) (cond (eqb (modeNumber r) 0) 0 160) ≡ leb x b
       unfolding rowCount modeNumber
       rows-is = ap₂ (λ (x m : ℕ). leb x (cond (eqb m 0) 0 160)) (sym f) (sym e) ∙ ap (leb x) (sym p)
 
       pub rows-bad : b < x → false ≡ every (countTests r)
-      unfolding countTests
+      unfolding countTests layoutTests
       rows-bad h = sym (every-false (countTests r) 1 (rows-is ∙ lt-leb x b h))
 
-      pub counts-rest : (y : ℕ) → m ≤ 3 → x ≤ b → y ≡ val (cut 12 1 r) → leb y 2 ≡ every (countTests r)
-      unfolding countTests modeNumber
+      pub counts-rest : (y : ℕ) → m ≤ 3 → x ≤ b → y ≡ val (cut packedLockAt 1 r) → leb y 2 ≡ every (countTests r)
+      unfolding countTests layoutTests modeNumber
       counts-rest y h k q =
           sym (pass (le-leb _ _ (rw e at h)) (pass (rows-is ∙ le-leb x b k) (and-true _ ∙ ap (λ (y : ℕ). leb y 2) (sym q))))
 
   module _ (x : ℕ) where
-    pub version-bad : x ≡ val (cut 0 1 r) → (x ≡ 1 → ⊥) → false ≡ every (headTests r)
-    unfolding headTests
+    pub version-bad : x ≡ val (cut versionAt 1 r) → (x ≡ 1 → ⊥) → false ≡ every (headTests r)
+    unfolding headTests layoutTests
     version-bad e p = sym (every-false (headTests r) 0 (ne-eqb _ _ (λ q. p (e ∙ q))))
 
-    pub size-bad : x ≡ val (cut 1 4 r) → (x ≡ 49544 → ⊥) → false ≡ every (headTests r)
-    unfolding headTests
+    pub size-bad : x ≡ val (cut restAt 4 r) → (x ≡ restSize → ⊥) → false ≡ every (headTests r)
+    unfolding headTests layoutTests
     size-bad e p = sym (every-false (headTests r) 1 (ne-eqb _ _ (λ q. p (e ∙ q))))
 
-    pub setting-bad : x ≡ val (cut 5 1 r) → 2 < x → false ≡ every (headTests r)
-    unfolding headTests
+    pub setting-bad : x ≡ val (cut settingAt 1 r) → 2 < x → false ≡ every (headTests r)
+    unfolding headTests layoutTests
     setting-bad e p = sym (every-false (headTests r) 2 (lt-leb _ _ (rw e at p)))
 
-    pub names-bad : x ≡ val (cut 6 2 r) → 256 < x → false ≡ every (headTests r)
-    unfolding headTests nameCount
+    pub names-bad : x ≡ val (cut namesAt 2 r) → 256 < x → false ≡ every (headTests r)
+    unfolding headTests layoutTests nameCount
     names-bad e p = sym (every-false (headTests r) 3 (lt-leb _ _ (rw e at p)))
 
-    pub lines-bad : x ≡ val (cut 8 2 r) → 1024 < x → false ≡ every (headTests r)
-    unfolding headTests lineCount
+    pub lines-bad : x ≡ val (cut linesAt 2 r) → 1024 < x → false ≡ every (headTests r)
+    unfolding headTests layoutTests lineCount
     lines-bad e p = sym (every-false (headTests r) 4 (lt-leb _ _ (rw e at p)))
 
-  pub head-rest : (v z s n m : ℕ) (b : Bool) → v ≡ val (cut 0 1 r) → v ≡ 1 → z ≡ val (cut 1 4 r) → z ≡ 49544
-      → s ≡ val (cut 5 1 r) → s ≤ 2 → n ≡ val (cut 6 2 r) → n ≤ 256 → m ≡ val (cut 8 2 r) → m ≤ 1024
+  pub head-rest : (v z s n m : ℕ) (b : Bool) → v ≡ val (cut versionAt 1 r) → v ≡ 1 → z ≡ val (cut restAt 4 r) → z ≡ restSize
+      → s ≡ val (cut settingAt 1 r) → s ≤ 2 → n ≡ val (cut namesAt 2 r) → n ≤ 256 → m ≡ val (cut linesAt 2 r) → m ≤ 1024
       → b ≡ every (countTests r) → b ≡ every (headTests r)
-  unfolding headTests countTests nameCount lineCount
+  unfolding headTests countTests layoutTests nameCount lineCount
   head-rest v z s n m b v= v1 z= z1 s= s1 n= n1 m= m1 e =
       sym (pass (eq-eqb _ _ (sym v= ∙ v1))
       (pass (eq-eqb _ _ (sym z= ∙ z1))
@@ -237,36 +239,36 @@ module _ (r : List ℕ) where
     table-passes : not ok ≡ false → okTable w test c k base r ≡ true
     table-passes q = table-is ∙ not-false ok q
 
-  module _ (n : ℕ) (e : n ≡ val (cut 6 2 r)) (ok : Bool) where
-    pub names-fail : ok ≡ okTable 65 (testText 64) 256 n 13 r → not ok ≡ true → false ≡ every (tableTests r)
-    unfolding tableTests nameCount
+  module _ (n : ℕ) (e : n ≡ val (cut namesAt 2 r)) (ok : Bool) where
+    pub names-fail : ok ≡ okTable nameWidth (testOf Names) 256 n nameBase r → not ok ≡ true → false ≡ every (tableTests r)
+    unfolding tableTests layoutTests nameCount
     names-fail p q = sym (every-false (tableTests r) 0 (table-fails _ _ _ _ e p q))
 
-    pub looses-fail : ok ≡ okTable 9 (λ x. isSome (looseIn x)) 256 n 16653 r → not ok ≡ true → false ≡ every (tableTests r)
-    unfolding tableTests nameCount
+    pub looses-fail : ok ≡ okTable looseWidth (testOf Looses) 256 n looseBase r → not ok ≡ true → false ≡ every (tableTests r)
+    unfolding tableTests layoutTests nameCount
     looses-fail p q = sym (every-false (tableTests r) 1 (table-fails _ _ _ _ e p q))
 
-    pub packeds-fail : ok ≡ okTable 8 (λ x. true) 256 n 18957 r → not ok ≡ true → false ≡ every (tableTests r)
-    unfolding tableTests nameCount
+    pub packeds-fail : ok ≡ okTable packedWidth (testOf Packeds) 256 n packedBase r → not ok ≡ true → false ≡ every (tableTests r)
+    unfolding tableTests layoutTests nameCount
     packeds-fail p q = sym (every-false (tableTests r) 2 (table-fails _ _ _ _ e p q))
 
-    pub locks-fail : ok ≡ okTable 1 (λ x. isSome (lockIn x)) 256 n 21005 r → not ok ≡ true → false ≡ every (tableTests r)
-    unfolding tableTests nameCount
+    pub locks-fail : ok ≡ okTable lockWidth (testOf Locks) 256 n lockBase r → not ok ≡ true → false ≡ every (tableTests r)
+    unfolding tableTests layoutTests nameCount
     locks-fail p q = sym (every-false (tableTests r) 3 (table-fails _ _ _ _ e p q))
 
-  pub rows-fail : (n : ℕ) (ok : Bool) → n ≡ val (cut 11 1 r) → ok ≡ okTable 36 (λ x. isSome (rowIn x)) 160 n 21261 r
+  pub rows-fail : (n : ℕ) (ok : Bool) → n ≡ val (cut rowsAt 1 r) → ok ≡ okTable rowWidth (testOf Rows) 160 n rowBase r
       → not ok ≡ true → false ≡ every (tableTests r)
-  unfolding tableTests rowCount
+  unfolding tableTests layoutTests rowCount
   rows-fail n ok e p q = sym (every-false (tableTests r) 4 (table-fails _ _ _ _ e p q))
 
-  pub tables-rest : (n m k : ℕ) (a b c d e f : Bool) → n ≡ val (cut 6 2 r) → m ≡ val (cut 8 2 r) → k ≡ val (cut 11 1 r)
-      → a ≡ okTable 65 (testText 64) 256 n 13 r → not a ≡ false
-      → b ≡ okTable 9 (λ x. isSome (looseIn x)) 256 n 16653 r → not b ≡ false
-      → c ≡ okTable 8 (λ x. true) 256 n 18957 r → not c ≡ false
-      → d ≡ okTable 1 (λ x. isSome (lockIn x)) 256 n 21005 r → not d ≡ false
-      → e ≡ okTable 36 (λ x. isSome (rowIn x)) 160 k 21261 r → not e ≡ false
-      → f ≡ okTable 22 (λ x. true) 1024 m 27021 r → f ≡ every (tableTests r)
-  unfolding tableTests nameCount lineCount rowCount
+  pub tables-rest : (n m k : ℕ) (a b c d e f : Bool) → n ≡ val (cut namesAt 2 r) → m ≡ val (cut linesAt 2 r) → k ≡ val (cut rowsAt 1 r)
+      → a ≡ okTable nameWidth (testOf Names) 256 n nameBase r → not a ≡ false
+      → b ≡ okTable looseWidth (testOf Looses) 256 n looseBase r → not b ≡ false
+      → c ≡ okTable packedWidth (testOf Packeds) 256 n packedBase r → not c ≡ false
+      → d ≡ okTable lockWidth (testOf Locks) 256 n lockBase r → not d ≡ false
+      → e ≡ okTable rowWidth (testOf Rows) 160 k rowBase r → not e ≡ false
+      → f ≡ okTable lineWidth (testOf Lines) 1024 m lineBase r → f ≡ every (tableTests r)
+  unfolding tableTests layoutTests nameCount lineCount rowCount
   tables-rest n m k a b c d e f n= m= k= a= a1 b= b1 c= c1 d= d1 e= e1 f= =
       sym (pass (table-passes _ _ _ _ n= a= a1)
       (pass (table-passes _ _ _ _ n= b= b1)
@@ -277,12 +279,12 @@ module _ (r : List ℕ) where
 -- ---- the layout
 
 module _ (r : List ℕ) where
-  pub layout-size : (length r ≡ 49549 → ⊥) → false ≡ layout r
+  pub layout-size : (length r ≡ regionSize → ⊥) → false ≡ layout r
   unfolding layout layoutTests
   layout-size p = sym (every-false (layoutTests r) 0 (ne-eqb _ _ p))
 
   -- every slice holds bytes
-  module _ (h : (i : ℕ) → Fits w8 (getD r i 0)) (e : length r ≡ 49549) where
+  module _ (h : (i : ℕ) → Fits w8 (getD r i 0)) (e : length r ≡ regionSize) where
     layout-is : layout r ≡ (every (headTests r) && every (tableTests r))
     unfolding layout layoutTests headTests tableTests
     layout-is =

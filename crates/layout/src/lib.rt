@@ -6,14 +6,18 @@ ghost use lib.ListN.{length};
 ghost use lib.Dec.{eqb};
 ghost use Rattle.word.specs.Codec.{okSlot, okTable};
 ghost use Rattle.word.specs.Tests.{every};
-ghost use Rattle.word.specs.Text.{testText};
 ghost use Rattle.region.specs.Layout.{regionSize};
 ghost use Rattle.region.specs.Region.{layout};
 ghost use Rattle.layout.specs.Tables.{widthOf, testOf, headTests, countTests, tableTests};
+use model::Line;
+use model::WriteReflog;
 use region::Layout;
 use slots::OptionLock;
 use slots::OptionLoose;
 use slots::OptionRow;
+use target::NameNumber;
+use transaction::Edit;
+use transaction::PackedRefs;
 
 // The tables of a region.
 pub enum Table {
@@ -27,11 +31,11 @@ pub enum Table {
 
 // A name's slot: its length, its bytes, and zeros.
 fn text_ok(slot: &[u8]) -> bool
-    requires { ⌜ length (now slot) ≡ 65 ⌝ }
-    ensures { λ r. ⌜ r ≡ testText 64 (now (slot .entry)) ⌝ }
+    requires { ⌜ length (now slot) ≡ widthOf Table.Names ⌝ }
+    ensures { λ r. ⌜ r ≡ testOf Table.Names (now (slot .entry)) ⌝ }
 {
     let n = slot[0] as usize;
-    if n > 64 {
+    if n > NameNumber::LONGEST {
         return false;
     }
     let a = n + 1;
@@ -39,7 +43,7 @@ fn text_ok(slot: &[u8]) -> bool
 }
 
 fn loose_ok(slot: &[u8]) -> bool
-    requires { ⌜ length (now slot) ≡ 9 ⌝ }
+    requires { ⌜ length (now slot) ≡ widthOf Table.Looses ⌝ }
     ensures { λ r. ⌜ r ≡ testOf Table.Looses (now (slot .entry)) ⌝ }
 {
     let OptionLoose::Loose(_) = slots::get_loose(slot) else {
@@ -49,7 +53,7 @@ fn loose_ok(slot: &[u8]) -> bool
 }
 
 fn lock_ok(slot: &[u8]) -> bool
-    requires { ⌜ length (now slot) ≡ 1 ⌝ }
+    requires { ⌜ length (now slot) ≡ widthOf Table.Locks ⌝ }
     ensures { λ r. ⌜ r ≡ testOf Table.Locks (now (slot .entry)) ⌝ }
 {
     let OptionLock::Lock(_) = slots::get_lock(slot) else {
@@ -59,7 +63,7 @@ fn lock_ok(slot: &[u8]) -> bool
 }
 
 fn row_ok(slot: &[u8]) -> bool
-    requires { ⌜ length (now slot) ≡ 36 ⌝ }
+    requires { ⌜ length (now slot) ≡ widthOf Table.Rows ⌝ }
     ensures { λ r. ⌜ r ≡ testOf Table.Rows (now (slot .entry)) ⌝ }
 {
     let OptionRow::Row(_) = slots::get_row(slot) else {
@@ -122,29 +126,31 @@ fn head_ok(region: &[u8]) -> bool
     requires { ⌜ length (now region) ≡ regionSize ⌝ }
     ensures { λ r. ⌜ r ≡ every (headTests (now (region .entry))) ⌝ }
 {
-    if word::get(&region[0..1]) != Layout::VERSION {
+    if word::get_at(region, Layout::VERSION_AT, 1) != Layout::VERSION {
         return false;
     }
-    if word::get(&region[1..5]) != Layout::REST {
+    if word::get_at(region, Layout::REST_AT, 4) != Layout::REST {
         return false;
     }
-    if word::get(&region[5..6]) > 2 {
+    if word::get_at(region, Layout::SETTING_AT, 1) > WriteReflog::ALWAYS {
         return false;
     }
-    if word::get(&region[6..8]) > 256 {
+    let names = word::get_at(region, Layout::NAME_COUNT, 2) as usize;
+    if names > NameNumber::LIMIT {
         return false;
     }
-    if word::get(&region[8..10]) > 1024 {
+    let lines = word::get_at(region, Layout::LINE_COUNT, 2) as usize;
+    if lines > Line::LIMIT {
         return false;
     }
     counts_ok(region)
 }
 
 // Nothing prepared has no rows.
-fn most_rows(mode: u64) -> u64
+fn most_rows(mode: u64) -> usize
     ensures { λ r. ⌜ r ≡ cond (eqb mode 0) 0 160 ⌝ }
 {
-    if mode == 0 { 0 } else { 160 }
+    if mode == 0 { 0 } else { Edit::LIMIT }
 }
 
 // Mode, count of rows and the packed table's lock.
@@ -152,45 +158,82 @@ fn counts_ok(region: &[u8]) -> bool
     requires { ⌜ length (now region) ≡ regionSize ⌝ }
     ensures { λ r. ⌜ r ≡ every (countTests (now (region .entry))) ⌝ }
 {
-    let mode = word::get(&region[10..11]);
-    if mode > 3 {
+    let mode = word::get_at(region, Layout::MODE_AT, 1);
+    if mode > PackedRefs::DELETIONS_AND_NON_SYMBOLIC_UPDATES_REMOVE_LOOSE_SOURCE_REFERENCE {
         return false;
     }
-    let rows = word::get(&region[11..12]);
+    let rows = word::get_at(region, Layout::ROW_COUNT, 1) as usize;
     if rows > most_rows(mode) {
         return false;
     }
-    word::get(&region[12..13]) <= 2
+    word::get_at(region, Layout::PACKED_LOCK, 1) <= OptionLock::OURS
 }
 
 fn tables_ok(region: &[u8]) -> bool
     requires { ⌜ length (now region) ≡ regionSize ⌝ }
     ensures { λ r. ⌜ r ≡ every (tableTests (now (region .entry))) ⌝ }
 {
-    let names = word::get16(&region[6..8]) as usize;
-    let lines = word::get16(&region[8..10]) as usize;
-    let rows = word::get8(&region[11..12]) as usize;
-    let a = table_ok(region, Table::Names, 65, 256, names, Layout::NAMES);
-    if !a {
+    let names = word::get_at(region, Layout::NAME_COUNT, 2) as usize;
+    let lines = word::get_at(region, Layout::LINE_COUNT, 2) as usize;
+    let rows = word::get_at(region, Layout::ROW_COUNT, 1) as usize;
+    if !table_ok(
+        region,
+        Table::Names,
+        Layout::NAME_WIDTH,
+        NameNumber::LIMIT,
+        names,
+        Layout::NAMES,
+    ) {
         return false;
     }
-    let b = table_ok(region, Table::Looses, 9, 256, names, Layout::LOOSES);
-    if !b {
+    if !table_ok(
+        region,
+        Table::Looses,
+        Layout::LOOSE_WIDTH,
+        NameNumber::LIMIT,
+        names,
+        Layout::LOOSES,
+    ) {
         return false;
     }
-    let c = table_ok(region, Table::Packeds, 8, 256, names, Layout::PACKEDS);
-    if !c {
+    if !table_ok(
+        region,
+        Table::Packeds,
+        Layout::PACKED_WIDTH,
+        NameNumber::LIMIT,
+        names,
+        Layout::PACKEDS,
+    ) {
         return false;
     }
-    let d = table_ok(region, Table::Locks, 1, 256, names, Layout::LOCKS);
-    if !d {
+    if !table_ok(
+        region,
+        Table::Locks,
+        Layout::LOCK_WIDTH,
+        NameNumber::LIMIT,
+        names,
+        Layout::LOCKS,
+    ) {
         return false;
     }
-    let e = table_ok(region, Table::Rows, 36, 160, rows, Layout::ROWS);
-    if !e {
+    if !table_ok(
+        region,
+        Table::Rows,
+        Layout::ROW_WIDTH,
+        Edit::LIMIT,
+        rows,
+        Layout::ROWS,
+    ) {
         return false;
     }
-    table_ok(region, Table::Lines, 22, 1024, lines, Layout::LINES)
+    table_ok(
+        region,
+        Table::Lines,
+        Layout::LINE_WIDTH,
+        Line::LIMIT,
+        lines,
+        Layout::LINES,
+    )
 }
 
 // Whether a region is laid out so.
@@ -200,8 +243,7 @@ pub fn is_laid(region: &[u8]) -> bool
     if region.len() != Layout::SIZE {
         return false;
     }
-    let ok = head_ok(region);
-    if !ok {
+    if !head_ok(region) {
         return false;
     }
     tables_ok(region)

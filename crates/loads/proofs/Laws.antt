@@ -1,23 +1,30 @@
 -- Loads: what each way out answers. Assumes nothing.
-use mathlib.Core.Path.{_≡_, refl, sym, ap, _∙_}
-use mathlib.Core.Bool.{Bool, true, false, not, _&&_, and-false}
-use mathlib.Core.List.{List}
+use mathlib.Core.Path.{_≡_, refl, sym, ap, _∙_, subst}
+use mathlib.Core.Bool.{Bool, true, false, not, _&&_, cond}
+use mathlib.Core.List.{List, [], _∷_}
 use mathlib.Core.Option.{Option, none, some}
 use Prim.Native.Nat.{ℕ, zero, suc, _<_, _≤_, _^_}
 use native.Mathlib.Omega.{arith}
-use lib.Dec.{eqb, ltb, leb}
-use borrow.Author.Tests.{lt-leb, le-ltb, lt-ltb, ltb-true, leb-true, leb-false, ne-eqb, not-false}
+use lib.Dec.{eqb, ltb}
+use borrow.Author.Tests.{lt-leb, lt-ltb, ltb-true, ne-eqb, not-false}
 use mir.Val.{Fits}
 use mir.Syntax.{w64}
+use Rattle.target.specs.declared.NameNumber.{NameNumber}
+use Rattle.target.specs.declared.OptionName.{OptionName}
+use Rattle.target.specs.declared.OptionName.the-variants.{NoName, Name}
+use Rattle.target.specs.declared.Target.the-variants.{Object}
+use Rattle.target.specs.declared.OptionTarget.the-variants.{Absent, Present}
+use Rattle.target.specs.Fields.{nameBelow}
 use Rattle.transaction.specs.declared.PackedRefs.{PackedRefs}
 use Rattle.transaction.specs.declared.PackedRefs.the-variants.{DeletionsOnly, DeletionsAndNonSymbolicUpdates, DeletionsAndNonSymbolicUpdatesRemoveLooseSourceReference}
 use Rattle.transaction.specs.Fields.{packedRefsNumber}
 use Rattle.model.specs.declared.Loose.{Loose}
+use Rattle.model.specs.declared.Loose.the-variants as loose
 use Rattle.model.specs.declared.Packed.{Packed}
 use Rattle.model.specs.declared.Packed.the-variants as packed
 use Rattle.model.specs.declared.Refusal.the-variants.{NotRegistered, WrongState, BadLoad}
 use Rattle.model.specs.Names.{packable}
-use Rattle.model.specs.Store.{Store, Prepared, count, entryAt, isPrepared, isId, putLoose, putPacked, changeEntry}
+use Rattle.model.specs.Store.{Store, Prepared, count, entryAt, entryOf, isPrepared, isId, putLoose, putPacked, changeEntry}
 use Rattle.model.specs.Outcome.Outcome.{refuse, pass}
 use Rattle.model.specs.Reply.{Reply, _>>_, known, idle}
 use Rattle.model.specs.Reply.Call.{loadLoose, loadPacked}
@@ -26,7 +33,9 @@ use Rattle.model.specs.Calls.{step}
 use Rattle.model.specs.Load.{looseOf, looseLoaded, packedOf, packedLoaded}
 use Rattle.slots.specs.declared.OptionLoose.{OptionLoose}
 use Rattle.slots.specs.declared.OptionLoose.the-variants as optionLoose
-use Rattle.slots.specs.Values.{FitsLoose, FitsPacked, looseFrom, looseOption}
+use Rattle.slots.specs.Values.{FitsLoose, FitsPacked, unbroken, looseFrom, looseOption}
+use Rattle.model.specs.EditList.{_>>=_ as _>>=ₒ_}
+use Rattle.model.specs.Numbers.{answer}
 use Rattle.word.proofs.Tests.{both-true}
 use Rattle.model.proofs.Binds.{cond-some, some-is, none-some}
 use Rattle.slots.proofs.Forms.{loose-back}
@@ -34,22 +43,32 @@ use Rattle.region.specs.Region.{view, good, modeByte, Became}
 use Rattle.steps.specs.declared.OptionPacked.{OptionPacked}
 use Rattle.steps.specs.declared.OptionPacked.the-variants as optionPacked
 use Rattle.steps.specs.Steps.{packedBy, packedOption}
-use Rattle.answers.specs.declared.Verdict.the-variants.{Done, Refused}
+use Rattle.answers.specs.declared.Verdict.{Verdict}
+use Rattle.answers.specs.Answers.{answerBy}
 use Rattle.calls.specs.Call.{replyTo, Replied}
 use Rattle.calls.proofs.Replies.{good-laid, says-no, says-done, no-3, no-15, no-21}
-use Rattle.calls.proofs.Known.{known-far, known-near}
+use Rattle.calls.proofs.Known.{known-far, known-near, known-as}
 
 -- ---- a link that is not registered
 
 pub no-link : (s : Store) (kind x : ℕ) → (kind ≡ 2 → ⊥) → false ≡ (eqb kind 2 && not (ltb x (count s)))
 no-link s kind x h = rw (ne-eqb kind 2 h)
 
-pub link-number : (s : Store) (kind x k : ℕ) → kind ≡ 2 → k ≡ count s → leb k x ≡ (eqb kind 2 && not (ltb x (count s)))
-link-number s kind x k h e = rw (h, ← e) (go (leb k x) refl)
-  where
-    go : (b : Bool) → leb k x ≡ b → leb k x ≡ not (ltb x k)
-    go true q = rw (q, le-ltb x k (leb-true k x q))
-    go false q = rw (q, lt-ltb x k (leb-false k x q))
+-- o is the name of the number, if it is registered
+module _ (s : Store) (kind x : ℕ) (o : OptionName) (h : kind ≡ 2) (e : o ≡ nameBelow (count s) x) where
+  pub link-stray : o ≡ NoName → true ≡ (eqb kind 2 && not (ltb x (count s)))
+  link-stray q = rw h (go (ltb x (count s)) refl)
+    where
+      go : (b : Bool) → ltb x (count s) ≡ b → true ≡ not (ltb x (count s))
+      go true p = absurd (let t : o ≡ Name (record { 0 = x }) = rw p at e in let z : _≡_ {A = ℕ} 0 1 = cc in omega arith)
+      go false p = rw p
+
+  pub link-known : (m : NameNumber) → o ≡ Name m → false ≡ (eqb kind 2 && not (ltb x (count s)))
+  link-known m q = rw h (go (ltb x (count s)) refl)
+    where
+      go : (b : Bool) → ltb x (count s) ≡ b → false ≡ not (ltb x (count s))
+      go true p = rw p
+      go false p = absurd (let t : o ≡ NoName = rw p at e in let z : _≡_ {A = ℕ} 0 1 = cc in omega arith)
 
 -- ---- 15, then 3
 
@@ -74,20 +93,38 @@ module _ (m : ℕ) (s : Store) (em : m ≡ modeByte (s .prepared)) where
   free h = rw (not-prepared (s .prepared) (sym em ∙ h))
 
   -- past both tests
-  goes : (n k : ℕ) → m ≡ 0 → k ≡ count s → n < k → (reply : Reply) → (idle s >> (known n s >> reply)) ≡ reply
-  goes n k h ek l reply = rw (free h, known-near n k s ek l)
+  goes : (n : ℕ) (o : OptionName) (a : NameNumber) → m ≡ 0 → o ≡ nameBelow (count s) n → o ≡ Name a → (reply : Reply) → (idle s >> (known n s >> reply)) ≡ reply
+  goes n o a h e q reply = rw (free h, known-near n s o e a q)
 
 -- ---- the values
 
-loose-same : (kind x k : ℕ) → k ≤ 256 → (eqb kind 2 && not (ltb x k)) ≡ false → looseFrom kind x ≡ looseOf kind x
-loose-same kind x k l h = go (eqb kind 2) refl h
+-- a slot's reading is the load's, but for links past 16 bits and numbers past 64
+loose-same : (kind x k : ℕ) → Fits w64 x → k ≤ 256 → (eqb kind 2 && not (ltb x k)) ≡ false → looseFrom kind x ≡ looseOf kind x
+loose-same zero x k f l h = go (eqb x 0)
   where
-    go : (b : Bool) → eqb kind 2 ≡ b → (b && not (ltb x k)) ≡ false → looseFrom kind x ≡ looseOf kind x
-    go true e q =
-        let near : x < k = ltb-true x k (not-false (ltb x k) q) in
-        let small : x < 2 ^ 16 = omega arith in
-        rw (lt-leb (2 ^ 16) x small, and-false)
-    go false e q = rw e
+    go : (b : Bool) → (cond b (some Absent) none >>=ₒ λ t. some (unbroken t)) ≡ cond b (some loose.None) none
+    go true = refl
+    go false = refl
+loose-same (suc zero) x k f l h =
+    let p : x < 2 ^ 64 = f .fits in
+    let e : isId x ≡ not (eqb x 0) = rw (lt-ltb x (2 ^ 64) p) (positive x) in
+    rw e (go (eqb x 0))
+  where
+    positive : (x : ℕ) → (ltb 0 x && true) ≡ not (eqb x 0)
+    positive zero = refl
+    positive (suc x) = refl
+
+    go : (b : Bool)
+        → (cond b none (some (Present (Object (record { 0 = x })))) >>=ₒ λ t. some (unbroken t))
+        ≡ cond (not b) (some (loose.Target (Object (record { 0 = x })))) none
+    go true = refl
+    go false = refl
+loose-same (suc (suc zero)) x k f l h =
+    let near : x < k = ltb-true x k (not-false (ltb x k) h) in
+    let small : x < 2 ^ 16 = omega arith in
+    rw (lt-leb (2 ^ 16) x small)
+loose-same (suc (suc (suc zero))) x k f l h = refl
+loose-same (suc (suc (suc (suc kind)))) x k f l h = refl
 
 loose-fits : (kind x : ℕ) (v : Loose) → Fits w64 x → looseFrom kind x ≡ some v → FitsLoose v
 loose-fits kind x v f h = let p : x < 2 ^ 64 = f .fits in loose-back kind x v h p .2
@@ -107,66 +144,72 @@ packed-fits b (suc (suc k)) x v f h = absurd (none-some (sym h))
 
 -- ---- the ways out
 
-module _ (n kind x : ℕ) (r : List ℕ) (ok : Bool) (is : ok ≡ good r) (y : not ok ≡ false) (m : ℕ) (em : m ≡ modeByte (view r .prepared)) where
-  pub loose-busy : (m ≡ 0 → ⊥) → Replied (Refused 15 0) r r (replyTo (loadLoose n kind x) r)
+module _ (n kind x : ℕ) (r : List ℕ) (ok : Bool) (is : ok ≡ good r) (y : not ok ≡ false) (m : ℕ) (em : m ≡ modeByte (view r .prepared)) (w : Verdict) where
+  pub loose-busy : (m ≡ 0 → ⊥) → answerBy w ≡ answer 15 [] → Replied w r r (replyTo (loadLoose n kind x) r)
   unfolding step looseLoaded
-  loose-busy h = says-no (loadLoose n kind x) r ok is refl y WrongState 15 0 no-15 (rw (busy m (view r) em h))
+  loose-busy h a = says-no (loadLoose n kind x) r ok is refl y WrongState w (a ∙ no-15) (rw (busy m (view r) em h))
 
-  pub packed-busy : (m ≡ 0 → ⊥) → Replied (Refused 15 0) r r (replyTo (loadPacked n kind x) r)
+  pub packed-busy : (m ≡ 0 → ⊥) → answerBy w ≡ answer 15 [] → Replied w r r (replyTo (loadPacked n kind x) r)
   unfolding step packedLoaded
-  packed-busy h = says-no (loadPacked n kind x) r ok is refl y WrongState 15 0 no-15 (rw (busy m (view r) em h))
+  packed-busy h a = says-no (loadPacked n kind x) r ok is refl y WrongState w (a ∙ no-15) (rw (busy m (view r) em h))
 
-  module _ (h : m ≡ 0) (k : ℕ) (ek : k ≡ count (view r)) where
-    pub loose-far : k ≤ n → Replied (Refused 3 n) r r (replyTo (loadLoose n kind x) r)
+  module _ (h : m ≡ 0) (i : OptionName) (ei : i ≡ nameBelow (count (view r)) n) where
+    pub loose-far : i ≡ NoName → answerBy w ≡ answer 3 (n ∷ []) → Replied w r r (replyTo (loadLoose n kind x) r)
     unfolding step looseLoaded
-    loose-far l = says-no (loadLoose n kind x) r ok is refl y (NotRegistered n) 3 n (no-3 n) (rw (free m (view r) em h, known-far n k (view r) ek l))
+    loose-far l a = says-no (loadLoose n kind x) r ok is refl y (NotRegistered n) w (a ∙ no-3 n) (rw (free m (view r) em h, known-far n (view r) i ei l))
 
-    pub packed-far : k ≤ n → Replied (Refused 3 n) r r (replyTo (loadPacked n kind x) r)
+    pub packed-far : i ≡ NoName → answerBy w ≡ answer 3 (n ∷ []) → Replied w r r (replyTo (loadPacked n kind x) r)
     unfolding step packedLoaded
-    packed-far l = says-no (loadPacked n kind x) r ok is refl y (NotRegistered n) 3 n (no-3 n) (rw (free m (view r) em h, known-far n k (view r) ek l))
+    packed-far l a = says-no (loadPacked n kind x) r ok is refl y (NotRegistered n) w (a ∙ no-3 n) (rw (free m (view r) em h, known-far n (view r) i ei l))
 
-    module _ (l : n < k) where
+    module _ (at : NameNumber) (l : i ≡ Name at) where
       on : (reply : Reply) → (idle (view r) >> (known n (view r) >> reply)) ≡ reply
-      on reply = goes m (view r) em n k h ek l reply
+      on reply = goes m (view r) em n i at h ei l reply
+
+      as-named : at ≡ record { 0 = n }
+      as-named = known-as n (view r) i ei at l
 
       module _ (stray : Bool) (es : stray ≡ (eqb kind 2 && not (ltb x (count (view r))))) where
-        pub loose-stray : stray ≡ true → Replied (Refused 3 x) r r (replyTo (loadLoose n kind x) r)
+        pub loose-stray : stray ≡ true → answerBy w ≡ answer 3 (x ∷ []) → Replied w r r (replyTo (loadLoose n kind x) r)
         unfolding step looseLoaded
-        loose-stray q = says-no (loadLoose n kind x) r ok is refl y (NotRegistered x) 3 x (no-3 x) (on _ ∙ (rw (sym es ∙ q)))
+        loose-stray q a = says-no (loadLoose n kind x) r ok is refl y (NotRegistered x) w (a ∙ no-3 x) (on _ ∙ (rw (sym es ∙ q)))
 
-        module _ (q : stray ≡ false) (o : OptionLoose) (eo : looseOption o ≡ looseFrom kind x) where
+        module _ (q : stray ≡ false) (o : OptionLoose) (eo : looseOption o ≡ looseFrom kind x) (f : Fits w64 x) where
           same : looseOption o ≡ looseOf kind x
-          same = eo ∙ loose-same kind x (count (view r)) (good-laid r ok is y .names) (sym es ∙ q)
+          same = eo ∙ loose-same kind x (count (view r)) f (good-laid r ok is y .names) (sym es ∙ q)
 
-          pub loose-bad : o ≡ optionLoose.NoLoose → Replied (Refused 21 0) r r (replyTo (loadLoose n kind x) r)
+          pub loose-bad : o ≡ optionLoose.NoLoose → answerBy w ≡ answer 21 [] → Replied w r r (replyTo (loadLoose n kind x) r)
           unfolding step looseLoaded
-          loose-bad p =
+          loose-bad p a =
               let none-there : none ≡ looseOf kind x = ap looseOption (sym p) ∙ same in
-              says-no (loadLoose n kind x) r ok is refl y BadLoad 21 0 no-21 (on _ ∙ (rw (sym es ∙ q, ← none-there)))
+              says-no (loadLoose n kind x) r ok is refl y BadLoad w (a ∙ no-21) (on _ ∙ (rw (sym es ∙ q, ← none-there)))
 
-          pub loose-done : (v : Loose) (r′ : List ℕ) → o ≡ optionLoose.Loose v → Became r′ (changeEntry (putLoose v) n (view r))
-              → Replied Done r r′ (replyTo (loadLoose n kind x) r)
+          pub loose-done : (v : Loose) (r′ : List ℕ) → o ≡ optionLoose.Loose v → Became r′ (changeEntry (putLoose v) (at .0) (view r)) → answerBy w ≡ answer 0 []
+              → Replied w r r′ (replyTo (loadLoose n kind x) r)
           unfolding step looseLoaded
-          loose-done v r′ p b =
+          loose-done v r′ p b a =
               let there : some v ≡ looseOf kind x = ap looseOption (sym p) ∙ same in
-              says-done (loadLoose n kind x) r ok is refl y Done (changeEntry (putLoose v) n (view r)) nothing r′ (on _ ∙ (rw (sym es ∙ q, ← there))) refl b
+              says-done (loadLoose n kind x) r ok is refl y w (changeEntry (putLoose v) n (view r)) nothing r′ (on _ ∙ (rw (sym es ∙ q, ← there))) a
+              (subst (λ (at : NameNumber). Became r′ (changeEntry (putLoose v) (at .0) (view r))) as-named b)
 
-      module _ (name : List ℕ) (en : name ≡ entryAt (view r) n .name) (b : Bool) (eb : b ≡ packable name) (o : OptionPacked) (eo : packedOption o ≡ packedBy b kind x) where
+      module _ (name : List ℕ) (en : name ≡ entryOf (view r) at .name) (b : Bool) (eb : b ≡ packable name) (o : OptionPacked) (eo : packedOption o ≡ packedBy b kind x) where
         as-packed : packedOption o ≡ packedOf (entryAt (view r) n .name) kind x
-        as-packed = eo ∙ packed-same (entryAt (view r) n .name) b kind x (eb ∙ ap packable en)
+        as-packed =
+            eo ∙ packed-same (entryAt (view r) n .name) b kind x (eb ∙ ap packable (en ∙ ap (λ (at : NameNumber). entryOf (view r) at .name) as-named))
 
-        pub packed-bad : o ≡ optionPacked.NoPacked → Replied (Refused 21 0) r r (replyTo (loadPacked n kind x) r)
+        pub packed-bad : o ≡ optionPacked.NoPacked → answerBy w ≡ answer 21 [] → Replied w r r (replyTo (loadPacked n kind x) r)
         unfolding step packedLoaded
-        packed-bad p =
+        packed-bad p a =
             let none-there : none ≡ packedOf (entryAt (view r) n .name) kind x = ap packedOption (sym p) ∙ as-packed in
-            says-no (loadPacked n kind x) r ok is refl y BadLoad 21 0 no-21 (on _ ∙ (rw (← none-there)))
+            says-no (loadPacked n kind x) r ok is refl y BadLoad w (a ∙ no-21) (on _ ∙ (rw (← none-there)))
 
-        pub packed-done : (v : Packed) (r′ : List ℕ) → o ≡ optionPacked.Packed v → Became r′ (changeEntry (putPacked v) n (view r))
-            → Replied Done r r′ (replyTo (loadPacked n kind x) r)
+        pub packed-done : (v : Packed) (r′ : List ℕ) → o ≡ optionPacked.Packed v → Became r′ (changeEntry (putPacked v) (at .0) (view r)) → answerBy w ≡ answer 0 []
+            → Replied w r r′ (replyTo (loadPacked n kind x) r)
         unfolding step packedLoaded
-        packed-done v r′ p b =
+        packed-done v r′ p c a =
             let there : some v ≡ packedOf (entryAt (view r) n .name) kind x = ap packedOption (sym p) ∙ as-packed in
-            says-done (loadPacked n kind x) r ok is refl y Done (changeEntry (putPacked v) n (view r)) nothing r′ (on _ ∙ (rw (← there))) refl b
+            says-done (loadPacked n kind x) r ok is refl y w (changeEntry (putPacked v) n (view r)) nothing r′ (on _ ∙ (rw (← there))) a
+            (subst (λ (at : NameNumber). Became r′ (changeEntry (putPacked v) (at .0) (view r))) as-named c)
 
 -- ---- what is written fits its slot
 

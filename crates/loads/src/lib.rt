@@ -10,6 +10,7 @@ use answers::Answer;
 use answers::Verdict;
 use slots::OptionLoose;
 use steps::OptionPacked;
+use target::OptionName;
 
 // A link to a number that is not registered.
 fn is_stray_link(region: &[u8], kind: u64, number: u64) -> bool
@@ -19,47 +20,50 @@ fn is_stray_link(region: &[u8], kind: u64, number: u64) -> bool
     if kind != OptionLoose::LINK {
         return false;
     }
-    number >= (region::count_names(region) as u64)
+    let OptionName::Name(_) = region::known(region, number) else {
+        return true;
+    };
+    false
 }
 
 pub fn load_loose(region: &mut [u8], name: u64, kind: u64, number: u64) -> Verdict
     ensures { λ r. ⌜ Replied r (now (region .entry)) (now (region .exit)) (replyTo (loadLoose name kind number) (now (region .entry))) ⌝ }
 {
     if !good::is_good(region) {
-        return Verdict::Refused(Answer::BAD_REGION, 0);
+        return Verdict::bare(Answer::BAD_REGION);
     }
     if region::mode_number(region) != 0 {
-        return Verdict::Refused(Answer::WRONG_STATE, 0);
+        return Verdict::bare(Answer::WRONG_STATE);
     }
-    if name >= (region::count_names(region) as u64) {
-        return Verdict::Refused(Answer::NOT_REGISTERED, name);
-    }
+    let OptionName::Name(n) = region::known(region, name) else {
+        return Verdict::one(Answer::NOT_REGISTERED, name);
+    };
     if is_stray_link(region, kind, number) {
-        return Verdict::Refused(Answer::NOT_REGISTERED, number);
+        return Verdict::one(Answer::NOT_REGISTERED, number);
     }
     let OptionLoose::Loose(value) = slots::loose_from(kind, number) else {
-        return Verdict::Refused(Answer::BAD_LOAD, 0);
+        return Verdict::bare(Answer::BAD_LOAD);
     };
-    region::put_loose_at(region, name as usize, value);
-    Verdict::Done
+    writers::put_loose_at(region, n, value);
+    Verdict::bare(Answer::DONE)
 }
 
 pub fn load_packed(region: &mut [u8], name: u64, kind: u64, number: u64) -> Verdict
     ensures { λ r. ⌜ Replied r (now (region .entry)) (now (region .exit)) (replyTo (loadPacked name kind number) (now (region .entry))) ⌝ }
 {
     if !good::is_good(region) {
-        return Verdict::Refused(Answer::BAD_REGION, 0);
+        return Verdict::bare(Answer::BAD_REGION);
     }
     if region::mode_number(region) != 0 {
-        return Verdict::Refused(Answer::WRONG_STATE, 0);
+        return Verdict::bare(Answer::WRONG_STATE);
     }
-    if name >= (region::count_names(region) as u64) {
-        return Verdict::Refused(Answer::NOT_REGISTERED, name);
-    }
-    let packable = names::is_packable(region::name_at(region, name as usize));
-    let OptionPacked::Packed(value) = steps::packed_of(packable, kind, number) else {
-        return Verdict::Refused(Answer::BAD_LOAD, 0);
+    let OptionName::Name(n) = region::known(region, name) else {
+        return Verdict::one(Answer::NOT_REGISTERED, name);
     };
-    region::put_packed_at(region, name as usize, value);
-    Verdict::Done
+    let packable = names::is_packable(region::name_at(region, n));
+    let OptionPacked::Packed(value) = steps::packed_of(packable, kind, number) else {
+        return Verdict::bare(Answer::BAD_LOAD);
+    };
+    writers::put_packed_at(region, n, value);
+    Verdict::bare(Answer::DONE)
 }

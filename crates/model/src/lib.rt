@@ -81,3 +81,9 @@ pub enum Refusal {
     BadLoad,
     NothingThere,
 }
+
+// What a part of prepare that may refuse comes to.
+pub enum Judged {
+    Passed,
+    Refused(Refusal),
+}

@@ -5,26 +5,27 @@ ghost use Rattle.calls.specs.Call.{replyTo, Replied, namePart};
 use answers::Answer;
 use answers::Verdict;
 use region::Layout;
-use steps::Found;
+use target::NameNumber;
+use target::OptionName;
 
 pub fn add_name(region: &mut [u8], name: &[u8]) -> Verdict
     ensures { λ r. ⌜ Replied r (now (region .entry)) (now (region .exit)) (replyTo (addName (now (name .entry))) (now (region .entry))) ⌝ }
 {
     if !good::is_good(region) {
-        return Verdict::Refused(Answer::BAD_REGION, 0);
+        return Verdict::bare(Answer::BAD_REGION);
     }
     if !names::is_name(name) {
-        return Verdict::Refused(Answer::BAD_NAME, 0);
+        return Verdict::bare(Answer::BAD_NAME);
     }
-    if let Found::At(n) = steps::find_name(region, name) {
-        return Verdict::Number(n as u64);
+    if let OptionName::Name(known) = steps::find_name(region, name) {
+        return Verdict::one(Answer::DONE, known.0 as u64);
     }
     let n = region::count_names(region);
-    if n >= 256 {
-        return Verdict::Refused(Answer::NAMES_FULL, 0);
+    if n >= NameNumber::LIMIT {
+        return Verdict::bare(Answer::NAMES_FULL);
     }
-    region::add_name(region, name);
-    Verdict::Number(n as u64)
+    writers::add_name(region, name);
+    Verdict::one(Answer::DONE, n as u64)
 }
 
 // The bytes of a name as that stretch of the region, not a copy; empty on refusal.
@@ -34,10 +35,10 @@ pub fn name_part(region: &[u8], name: u64) -> &[u8]
     if !good::is_good(region) {
         return &region[0..0];
     }
-    if name >= (region::count_names(region) as u64) {
+    let OptionName::Name(n) = region::known(region, name) else {
         return &region[0..0];
-    }
-    region::name_at(region, name as usize)
+    };
+    region::name_at(region, n)
 }
 
 // Where the part stands. No name is empty, so an empty part is a refusal; the region's test then says which.
@@ -47,10 +48,11 @@ pub fn name_bytes(region: &[u8], name: u64) -> Verdict
     let part = name_part(region, name);
     let length = part.len() as u64;
     if length != 0 {
-        return Verdict::Two((Layout::NAMES as u64) + name * 65 + 1, length);
+        let width = Layout::NAME_WIDTH as u64;
+        return Verdict::two(Answer::DONE, (Layout::NAMES as u64) + name * width + 1, length);
     }
     if !good::is_good(region) {
-        return Verdict::Refused(Answer::BAD_REGION, 0);
+        return Verdict::bare(Answer::BAD_REGION);
     }
-    Verdict::Refused(Answer::NOT_REGISTERED, name)
+    Verdict::one(Answer::NOT_REGISTERED, name)
 }

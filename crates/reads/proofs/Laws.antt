@@ -1,47 +1,38 @@
 -- Reads: what each way out answers. Assumes nothing.
 use mathlib.Core.Path.{_≡_, refl, sym, ap, ap₂, _∙_}
 use mathlib.Core.Bool.{Bool, true, false, not, cond}
-use mathlib.Core.List.{List}
+use mathlib.Core.List.{List, [], _∷_}
 use mathlib.Core.Option.{none, some}
-use Prim.Native.Nat.{ℕ, _<_, _≤_, _^_}
+use Prim.Native.Nat.{ℕ, _<_, _≤_}
 use native.Mathlib.Omega.{arith}
 use lib.ListN.{length, getD}
 use lib.Dec.{ltb, leb}
 use borrow.Author.Tests.{lt-leb, le-leb, ltb-true, ltb-false}
-use mir.Val.{Fits}
-use mir.Syntax.{w16}
+use Rattle.target.specs.declared.NameNumber.{NameNumber}
+use Rattle.target.specs.declared.OptionName.{OptionName}
+use Rattle.target.specs.declared.OptionName.the-variants.{NoName, Name}
 use Rattle.target.specs.declared.OptionTarget.{OptionTarget}
-use Rattle.target.specs.Fields.{targetByte, targetNumber}
+use Rattle.target.specs.Fields.{nameBelow, targetByte, targetNumber}
 use Rattle.transaction.specs.declared.Edit.{Edit}
-use Rattle.model.specs.declared.Loose.{Loose}
-use Rattle.model.specs.declared.Packed.{Packed}
 use Rattle.model.specs.declared.Line.{Line}
+use Rattle.model.specs.declared.OptionLine.{OptionLine}
+use Rattle.model.specs.declared.OptionLine.the-variants as optionLine
 use Rattle.model.specs.declared.Refusal.the-variants.{NotRegistered, NothingThere}
-use Rattle.model.specs.Store.{count, entryAt, linesOf, rowsIn, noLine}
-use Rattle.model.specs.Read.{looseOr, packedValue, reading}
+use Rattle.model.specs.Store.{count, entryOf, linesOf, rowsIn, noLine}
+use Rattle.model.specs.Read.{valueOf, reading}
 use Rattle.model.specs.Rows.{rowAt}
-use Rattle.model.specs.Reply.{Reply}
 use Rattle.model.specs.Reply.Reply.{done}
-use Rattle.model.specs.Numbers.{answerOf}
+use Rattle.model.specs.Numbers.{answer, optionPlaces, rowPlaces}
 use Rattle.model.specs.Reply.Call.{readName, readLine, readRow}
 use Rattle.model.specs.Reply.Given.{value, line, row}
 use Rattle.model.specs.Calls.{step, nameRead, lineRead, rowRead}
 use Rattle.region.specs.Region.{view, good}
-use Rattle.region.proofs.Decode.{laid-image}
-use Rattle.steps.specs.declared.OptionLine.{OptionLine}
-use Rattle.steps.specs.declared.OptionLine.the-variants as optionLine
 use Rattle.steps.specs.Steps.{lineOption, lineAmong}
-use Rattle.answers.specs.declared.Verdict.the-variants as verdict
-use Rattle.answers.specs.declared.RowVerdict.the-variants as row-verdict
-use Rattle.calls.specs.Call.{replyTo, Replied, RepliedRow}
-use Rattle.calls.proofs.Replies.{good-laid, bad-region, replies, says-no, says-read, no-3, no-22}
-use Rattle.calls.proofs.Known.{known-far, known-near}
-
--- a registered number has 16 bits
-pub near-fits : (r : List ℕ) (ok : Bool) (n k : ℕ) → ok ≡ good r → not ok ≡ false → k ≡ count (view r) → n < k → Fits w16 n
-near-fits r ok n k is y e l =
-    let most : count (view r) ≤ 256 = good-laid r ok is y .names in
-    record { fits = let p : n < 2 ^ 16 = omega arith in p }
+use Rattle.answers.specs.declared.Verdict.{Verdict}
+use Rattle.answers.specs.Answers.{answerBy}
+use Rattle.calls.specs.Call.{replyTo, Replied}
+use Rattle.calls.proofs.Replies.{says-no, says-read, no-3, no-22}
+use Rattle.calls.proofs.Known.{known-far, known-near, known-as}
 
 -- a line at a place is there exactly where the place is below the count
 no-line : (place : ℕ) (ls : List Line) → none ≡ lineAmong place ls → leb (length ls) place ≡ true
@@ -59,61 +50,62 @@ a-line place ls x h = go (ltb place (length ls)) refl h
     go true e h = (lt-leb (length ls) place (ltb-true place (length ls) e), cc)
     go false e h = absurd (let z : _≡_ {A = ℕ} 0 1 = cc in omega arith)
 
-module _ (r : List ℕ) (ok : Bool) (is : ok ≡ good r) (y : not ok ≡ false) where
-  module _ (n k : ℕ) (e : k ≡ count (view r)) where
-    pub name-far : k ≤ n → Replied (verdict.Refused 3 n) r r (replyTo (readName n) r)
+module _ (r : List ℕ) (ok : Bool) (is : ok ≡ good r) (y : not ok ≡ false) (x : Verdict) where
+  module _ (n : ℕ) (o : OptionName) (e : o ≡ nameBelow (count (view r)) n) where
+    pub name-far : o ≡ NoName → answerBy x ≡ answer 3 (n ∷ []) → Replied x r r (replyTo (readName n) r)
     unfolding step nameRead
-    name-far l = says-no (readName n) r ok is refl y (NotRegistered n) 3 n (no-3 n) (rw (known-far n k (view r) e l))
+    name-far h a = says-no (readName n) r ok is refl y (NotRegistered n) x (a ∙ no-3 n) (rw (known-far n (view r) o e h))
 
-    pub name-done : n < k → (l : Loose) (p : Packed) (v : OptionTarget) (x z : ℕ) → l ≡ entryAt (view r) n .loose → p ≡ entryAt (view r) n .packed
-        → v ≡ looseOr l (packedValue true p) → x ≡ targetByte v → z ≡ targetNumber v → Replied (verdict.Two x z) r r (replyTo (readName n) r)
-    unfolding step nameRead reading
-    name-done l a p v x z ea ep ev ex ez =
-        let is-read : v ≡ reading (view r) (record { 0 = n }) = ev ∙ ap₂ (λ (q : Loose) (w : Packed). looseOr q (packedValue true w)) ea ep in
-        rw (ex, ez, is-read)
-        (says-read (readName n) r ok is refl y (verdict.Two _ _) (value (reading (view r) (record { 0 = n }))) (rw (known-near n k (view r) e l)) refl)
+    pub line-far : (place : ℕ) → o ≡ NoName → answerBy x ≡ answer 3 (n ∷ []) → Replied x r r (replyTo (readLine n place) r)
+    unfolding step lineRead
+    line-far place h a = says-no (readLine n place) r ok is refl y (NotRegistered n) x (a ∙ no-3 n) (rw (known-far n (view r) o e h))
 
-    module _ (place : ℕ) where
-      pub line-far : k ≤ n → Replied (verdict.Refused 3 n) r r (replyTo (readLine n place) r)
-      unfolding step lineRead
-      line-far l = says-no (readLine n place) r ok is refl y (NotRegistered n) 3 n (no-3 n) (rw (known-far n k (view r) e l))
+    module _ (m : NameNumber) (h : o ≡ Name m) where
+      as-named : m ≡ record { 0 = n }
+      as-named = known-as n (view r) o e m h
 
-      module _ (l : n < k) (o : OptionLine) (eo : lineOption o ≡ lineAmong place (linesOf (view r) (record { 0 = n }))) where
-        pub line-none : o ≡ optionLine.NoLine → Replied (verdict.Refused 22 0) r r (replyTo (readLine n place) r)
+      pub name-done : (v : OptionTarget) (b k : ℕ) → v ≡ valueOf true (entryOf (view r) m) → b ≡ targetByte v → k ≡ targetNumber v
+          → answerBy x ≡ answer 0 (b ∷ k ∷ []) → Replied x r r (replyTo (readName n) r)
+      unfolding step nameRead reading
+      name-done v b k ev eb ek a =
+          let is-read : v ≡ reading (view r) (record { 0 = n }) = ev ∙ ap (λ (m : NameNumber). valueOf true (entryOf (view r) m)) as-named in
+          says-read (readName n) r ok is refl y x (value (reading (view r) (record { 0 = n }))) (rw (known-near n (view r) o e m h))
+          (a ∙ ap₂ (λ (b k : ℕ). answer 0 (b ∷ k ∷ [])) eb ek ∙ ap (λ (v : OptionTarget). answer 0 (optionPlaces v)) is-read)
+
+      module _ (place : ℕ) (l : OptionLine) (el : lineOption l ≡ lineAmong place (linesOf (view r) m)) where
+        among : lineOption l ≡ lineAmong place (linesOf (view r) (record { 0 = n }))
+        among = el ∙ ap (λ (m : NameNumber). lineAmong place (linesOf (view r) m)) as-named
+
+        pub line-none : l ≡ optionLine.NoLine → answerBy x ≡ answer 22 [] → Replied x r r (replyTo (readLine n place) r)
         unfolding step lineRead
-        line-none h =
-            let m : none ≡ lineAmong place (linesOf (view r) (record { 0 = n })) = ap lineOption (sym h) ∙ eo in
-            says-no (readLine n place) r ok is refl y NothingThere 22 0 no-22 (rw (known-near n k (view r) e l, no-line place (linesOf (view r) (record { 0 = n })) m))
+        line-none g a =
+            let q : none ≡ lineAmong place (linesOf (view r) (record { 0 = n })) = ap lineOption (sym g) ∙ among in
+            says-no (readLine n place) r ok is refl y NothingThere x (a ∙ no-22)
+            (rw (known-near n (view r) o e m h, no-line place (linesOf (view r) (record { 0 = n })) q))
 
-        pub line-done : (x : Line) → o ≡ optionLine.Line x
-            → Replied (verdict.Four (x .previous .0) (x .new .0) (x .committer) (x .message)) r r (replyTo (readLine n place) r)
+        pub line-done : (t : Line) → l ≡ optionLine.Line t → answerBy x ≡ answer 0 (t .previous .0 ∷ t .new .0 ∷ t .committer ∷ t .message ∷ [])
+            → Replied x r r (replyTo (readLine n place) r)
         unfolding step lineRead
-        line-done x h =
-            let m : some x ≡ lineAmong place (linesOf (view r) (record { 0 = n })) = ap lineOption (sym h) ∙ eo in
-            let there = a-line place (linesOf (view r) (record { 0 = n })) x m in
-            says-read (readLine n place) r ok is refl y (verdict.Four _ _ _ _) (line x) (rw (known-near n k (view r) e l, there .0, there .1)) refl
+        line-done t g a =
+            let q : some t ≡ lineAmong place (linesOf (view r) (record { 0 = n })) = ap lineOption (sym g) ∙ among in
+            let there = a-line place (linesOf (view r) (record { 0 = n })) t q in
+            says-read (readLine n place) r ok is refl y x (line t) (rw (known-near n (view r) o e m h, there .0, there .1)) a
 
--- ---- reading a row, whose verdict is its own
+  -- ---- a row
 
-as-row : (r r′ : List ℕ) (n p : ℕ) (reply : Reply) → Replied (verdict.Refused n p) r r′ reply → RepliedRow (row-verdict.Refused n p) r r′ reply
-as-row r r′ n p reply d = record { answer = d .answer; region = d .region }
+  module _ (place k : ℕ) (e : k ≡ length (rowsIn (view r .prepared))) where
+    pub row-far : k ≤ place → answerBy x ≡ answer 22 [] → Replied x r r (replyTo (readRow place) r)
+    unfolding step rowRead
+    row-far l a =
+        let b : length (rowsIn (view r .prepared)) ≤ place = rw e at l in
+        says-no (readRow place) r ok is refl y NothingThere x (a ∙ no-22) (rw (le-leb _ _ b))
 
-pub row-bad : (place : ℕ) (r : List ℕ) (ok : Bool) → ok ≡ good r → not ok ≡ true → RepliedRow (row-verdict.Refused 1 0) r r (replyTo (readRow place) r)
-row-bad place r ok is n = as-row r r 1 0 (replyTo (readRow place) r) (bad-region (readRow place) r ok is refl n)
+    pub row-done : place < k → (t : Edit) → t ≡ rowAt (rowsIn (view r .prepared)) place → answerBy x ≡ answer 0 (rowPlaces t) → Replied x r r (replyTo (readRow place) r)
+    unfolding step rowRead
+    row-done l t h a =
+        let b : place < length (rowsIn (view r .prepared)) = rw e at l in
+        let is-read : step (readRow place) (view r) ≡ done (view r) (row t) = rw (lt-leb _ _ b, h) in
+        says-read (readRow place) r ok is refl y x (row t) is-read a
 
-module _ (r : List ℕ) (ok : Bool) (is : ok ≡ good r) (y : not ok ≡ false) (place k : ℕ) (e : k ≡ length (rowsIn (view r .prepared))) where
-  pub row-far : k ≤ place → RepliedRow (row-verdict.Refused 22 0) r r (replyTo (readRow place) r)
-  unfolding step rowRead
-  row-far l =
-      let b : length (rowsIn (view r .prepared)) ≤ place = rw e at l in
-      as-row r r 22 0 (replyTo (readRow place) r) (says-no (readRow place) r ok is refl y NothingThere 22 0 no-22 (rw (le-leb _ _ b)))
-
-  pub row-near : place < k → place < length (rowsIn (view r .prepared))
-  row-near l = rw e at l
-
-  pub row-done : place < k → (x : Edit) → x ≡ rowAt (rowsIn (view r .prepared)) place → RepliedRow (row-verdict.Row x) r r (replyTo (readRow place) r)
-  unfolding step rowRead answerOf
-  row-done l x h =
-      let b : place < length (rowsIn (view r .prepared)) = rw e at l in
-      let is-read : step (readRow place) (view r) ≡ done (view r) (row x) = rw (lt-leb _ _ b, h) in
-      rw (replies (readRow place) r ok is refl y, is-read) (record { answer = refl; region = laid-image r (good-laid r ok is y) .0 })
+pub row-near : (r : List ℕ) (place k : ℕ) → k ≡ length (rowsIn (view r .prepared)) → place < k → place < length (rowsIn (view r .prepared))
+row-near r place k e l = rw e at l

@@ -1,44 +1,40 @@
 // Reads: a name's value, a line of its log, and a row of the prepared transaction.
 ghost use Rattle.model.specs.Reply.Call.{readName, readLine, readRow};
-ghost use Rattle.calls.specs.Call.{replyTo, Replied, RepliedRow};
+ghost use Rattle.calls.specs.Call.{replyTo, Replied};
 use answers::Answer;
-use answers::RowVerdict;
 use answers::Verdict;
-use steps::OptionLine;
-use target::NameNumber;
+use model::OptionLine;
+use target::OptionName;
 
 pub fn read_name(region: &[u8], name: u64) -> Verdict
     ensures { λ r. ⌜ Replied r (now (region .entry)) (now (region .entry)) (replyTo (readName name) (now (region .entry))) ⌝ }
 {
     if !good::is_good(region) {
-        return Verdict::Refused(Answer::BAD_REGION, 0);
+        return Verdict::bare(Answer::BAD_REGION);
     }
-    if name >= (region::count_names(region) as u64) {
-        return Verdict::Refused(Answer::NOT_REGISTERED, name);
-    }
-    let n = name as usize;
-    let loose = region::loose_at(region, n);
-    let packed = region::packed_at(region, n);
-    let value = steps::value_of(loose, packed);
-    Verdict::Two(value.byte(), value.number())
+    let OptionName::Name(n) = region::known(region, name) else {
+        return Verdict::one(Answer::NOT_REGISTERED, name);
+    };
+    let value = steps::value_of(region, true, n);
+    Verdict::two(Answer::DONE, value.byte(), value.number())
 }
 
 pub fn read_line(region: &[u8], name: u64, place: u64) -> Verdict
     ensures { λ r. ⌜ Replied r (now (region .entry)) (now (region .entry)) (replyTo (readLine name place) (now (region .entry))) ⌝ }
 {
     if !good::is_good(region) {
-        return Verdict::Refused(Answer::BAD_REGION, 0);
+        return Verdict::bare(Answer::BAD_REGION);
     }
-    if name >= (region::count_names(region) as u64) {
-        return Verdict::Refused(Answer::NOT_REGISTERED, name);
-    }
-    let number = name as u16;
-    let OptionLine::Line(line) = steps::find_line(region, NameNumber(number), place) else {
-        return Verdict::Refused(Answer::NOTHING_THERE, 0);
+    let OptionName::Name(n) = region::known(region, name) else {
+        return Verdict::one(Answer::NOT_REGISTERED, name);
+    };
+    let OptionLine::Line(line) = steps::find_line(region, n, place) else {
+        return Verdict::bare(Answer::NOTHING_THERE);
     };
     let previous = line.previous;
     let new = line.new;
-    Verdict::Four(
+    Verdict::four(
+        Answer::DONE,
         previous.0,
         new.0,
         line.committer as u64,
@@ -46,14 +42,14 @@ pub fn read_line(region: &[u8], name: u64, place: u64) -> Verdict
     )
 }
 
-pub fn read_row(region: &[u8], place: u64) -> RowVerdict
-    ensures { λ r. ⌜ RepliedRow r (now (region .entry)) (now (region .entry)) (replyTo (readRow place) (now (region .entry))) ⌝ }
+pub fn read_row(region: &[u8], place: u64) -> Verdict
+    ensures { λ r. ⌜ Replied r (now (region .entry)) (now (region .entry)) (replyTo (readRow place) (now (region .entry))) ⌝ }
 {
     if !good::is_good(region) {
-        return RowVerdict::Refused(Answer::BAD_REGION, 0);
+        return Verdict::bare(Answer::BAD_REGION);
     }
     if place >= (region::count_rows(region) as u64) {
-        return RowVerdict::Refused(Answer::NOTHING_THERE, 0);
+        return Verdict::bare(Answer::NOTHING_THERE);
     }
-    RowVerdict::Row(region::row_at(region, place as usize))
+    Verdict::row(region::row_at(region, place as usize))
 }

@@ -1,53 +1,49 @@
 use borrow.Author.Needs.{needs}
-use Rattle.good.proofs.Laws.{not-sound, not-locked, not-packed, too-many, sound-rows, all-but-room}
+use Rattle.good.proofs.Laws.{names-fail, lines-fail, rows-fail, locks-fail, room-decides}
 use Rattle.good.proofs.is_fine.Statement.{statement}
 use Rattle.good.proofs.is_fine.Tie as tie
 
-is-sound-requires : tie.Need-is-sound-requires
-is-sound-requires c κs = search needs
+names-fine-requires : tie.Need-names-fine-requires
+names-fine-requires c κs = search needs
 
 returns : tie.Need-returns
-returns c = search not-sound
+returns c = search names-fail
+
+lines-fine-requires : tie.Need-lines-fine-requires
+lines-fine-requires c κs = search needs
+
+returns-2 : tie.Need-returns-2
+returns-2 c = search lines-fail
+
+rows-fine-requires : tie.Need-rows-fine-requires
+rows-fine-requires c κs = search needs
+
+returns-3 : tie.Need-returns-3
+returns-3 c = search rows-fail
 
 locks-fine-requires : tie.Need-locks-fine-requires
 locks-fine-requires c κs = search needs
 
-returns-2 : tie.Need-returns-2
-returns-2 c = search not-locked
-
-packed-lock-fine-requires : tie.Need-packed-lock-fine-requires
-packed-lock-fine-requires c κs = search needs
-
-returns-3 : tie.Need-returns-3
-returns-3 c = search not-packed
-
-count-due-requires : tie.Need-count-due-requires
-count-due-requires c κs = search sound-rows
-
 returns-4 : tie.Need-returns-4
-returns-4 c = search too-many
+returns-4 c = search locks-fail
 
-count-lines-requires : tie.Need-count-lines-requires
-count-lines-requires c κs = search needs
-
-add-result : tie.Need-add-result
-add-result c = search needs
+room-fine-requires : tie.Need-room-fine-requires
+room-fine-requires c κs = search needs
 
 returns-5 : tie.Need-returns-5
-returns-5 c = search all-but-room
+returns-5 c = search room-decides
 
 pub is-fine-spec : {M : Type 1} → statement M
 is-fine-spec =
     tie.close
     (tie.spec
-    is-sound-requires
+    names-fine-requires
     returns
-    locks-fine-requires
+    lines-fine-requires
     returns-2
-    packed-lock-fine-requires
+    rows-fine-requires
     returns-3
-    count-due-requires
+    locks-fine-requires
     returns-4
-    count-lines-requires
-    add-result
+    room-fine-requires
     returns-5)

@@ -1,52 +1,16 @@
-use borrow.Author.Needs.{needs}
 use Rattle.layout.proofs.Laws.{names-fail, looses-fail, packeds-fail, locks-fail, rows-fail, tables-rest}
+use borrow.Author.Needs.{needs}
 use Rattle.layout.proofs.tables_ok.Statement.{statement}
 use Rattle.layout.proofs.tables_ok.Tie as tie
 
-sub-get16 : tie.Need-sub-get16
-sub-get16 c = search needs
+get-at-requires : tie.Need-get-at-requires
+get-at-requires c κs = search needs
 
-part-get16-start : tie.Need-part-get16-start
-part-get16-start c = search needs
+get-at-requires-2 : tie.Need-get-at-requires-2
+get-at-requires-2 c κs = search needs
 
-part-get16-end : tie.Need-part-get16-end
-part-get16-end c = search needs
-
-get16-requires : tie.Need-get16-requires
-get16-requires c κs = search needs
-
-cast-names : tie.Need-cast-names
-cast-names c = search needs
-
-sub-get16-2 : tie.Need-sub-get16-2
-sub-get16-2 c = search needs
-
-part-get16-start-2 : tie.Need-part-get16-start-2
-part-get16-start-2 c = search needs
-
-part-get16-end-2 : tie.Need-part-get16-end-2
-part-get16-end-2 c = search needs
-
-get16-requires-2 : tie.Need-get16-requires-2
-get16-requires-2 c κs = search needs
-
-cast-lines : tie.Need-cast-lines
-cast-lines c = search needs
-
-sub-get8 : tie.Need-sub-get8
-sub-get8 c = search needs
-
-part-get8-start : tie.Need-part-get8-start
-part-get8-start c = search needs
-
-part-get8-end : tie.Need-part-get8-end
-part-get8-end c = search needs
-
-get8-requires : tie.Need-get8-requires
-get8-requires c κs = search needs
-
-cast-rows : tie.Need-cast-rows
-cast-rows c = search needs
+get-at-requires-3 : tie.Need-get-at-requires-3
+get-at-requires-3 c κs = search needs
 
 table-ok-requires : tie.Need-table-ok-requires
 table-ok-requires c κs = search needs
@@ -88,21 +52,9 @@ pub tables-ok-spec : {M : Type 1} → statement M
 tables-ok-spec =
     tie.close
     (tie.spec
-    sub-get16
-    part-get16-start
-    part-get16-end
-    get16-requires
-    cast-names
-    sub-get16-2
-    part-get16-start-2
-    part-get16-end-2
-    get16-requires-2
-    cast-lines
-    sub-get8
-    part-get8-start
-    part-get8-end
-    get8-requires
-    cast-rows
+    get-at-requires
+    get-at-requires-2
+    get-at-requires-3
     table-ok-requires
     returns
     table-ok-requires-2
