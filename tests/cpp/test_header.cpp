@@ -1,4 +1,5 @@
-// The header: its constants are those of docs/SPEC.md, docs/LAYOUT.md and docs/ABI.md, its reader of places is right, and it serves C.
+// The header: its constants are those of docs/SPEC.md, docs/LAYOUT.md and docs/ABI.md, its reader of places is right, and it serves
+// C.
 #include "check.h"
 #include "dehlbazin.h"
 #include "image.h"
