@@ -27,6 +27,21 @@
 #include <stddef.h>
 #include <stdint.h>
 
+/* ---- the version of this interface: of this header and of the archive's entries. Each part is below 1000, so that a later
+ * version is a greater number: 0.1.0 is 1000, and 1.2.3 would be 1002003. #if can test it. */
+
+#define DEHLBAZIN_VERSION_MAJOR 0
+#define DEHLBAZIN_VERSION_MINOR 1
+#define DEHLBAZIN_VERSION_PATCH 0
+#define DEHLBAZIN_VERSION                                                                                                    \
+    (DEHLBAZIN_VERSION_MAJOR * 1000000 + DEHLBAZIN_VERSION_MINOR * 1000 + DEHLBAZIN_VERSION_PATCH)
+
+/* ---- the version of the region's layout (docs/LAYOUT.md), a count of its own: byte 0 of every good region. */
+
+#define DEHLBAZIN_LAYOUT_VERSION 1
+
+/* ---- sizes */
+
 #define DEHLBAZIN_REGION_SIZE 49549
 #define DEHLBAZIN_ANSWER_SIZE 128
 
@@ -125,11 +140,14 @@
 /* the place that DEHLBAZIN_NOT_REGISTERED fills, whatever the call */
 #define DEHLBAZIN_NOT_REGISTERED_NUMBER 0
 
-/* What stands at place i, 0 to 15, of an answer record. */
+/* What stands at place i of an answer record, which has DEHLBAZIN_ANSWER_SIZE bytes. The last place is 15: past it every i
+ * gives 0, and nothing is read. */
 static inline uint64_t dehlbazin_place(const uint8_t *answer, size_t i)
 {
     uint64_t number = 0;
     size_t at;
+    if (i >= DEHLBAZIN_ANSWER_SIZE / 8)
+        return 0;
     for (at = 8 * i; at < 8 * i + 8; at++)
         number = number << 8 | answer[at];
     return number;

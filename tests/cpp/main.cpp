@@ -1,4 +1,4 @@
-// The checks of the foreign interface. An argument N looks at every Nth bit only where all bits are turned over.
+// The checks of the foreign interface. With an argument N, only one bit of each N is turned over where all bits are.
 #include "check.h"
 #include "entries.h"
 #include "tests.h"
@@ -22,7 +22,7 @@ int main(int count, char **words)
     std::setvbuf(stdout, nullptr, _IOLBF, 0);
     unsigned long every = count > 1 ? std::strtoul(words[1], nullptr, 10) : 1;
     if (count > 2 || every == 0) {
-        std::fprintf(stderr, "usage: %s [N], to turn over every Nth bit only\n", words[0]);
+        std::fprintf(stderr, "usage: %s [N], to turn over one bit of each N only\n", words[0]);
         return 2;
     }
     part("header", test_header);

@@ -1,5 +1,5 @@
-// Each bit of a region turned over in turn. The archive and our own decoder must take the same ones for good, and a call on
-// those must do what it does on our own store. What our decoder accepts, our encoder writes as the same bytes again.
+// Each bit of a region turned over in turn, or one bit of each N. The archive and our own decoder must take the same ones for good,
+// and a call on those must do what it does on our own store. What our decoder accepts, our encoder writes as the same bytes again.
 #include "entries.h"
 #include "samples.h"
 #include "tests.h"
@@ -58,40 +58,62 @@ struct Copy {
     }
 };
 
-static size_t flip(const Bytes &bytes, size_t first, size_t end, size_t every)
+// Turns one bit over, checks the region, turns it back, and says whether the region was good in between.
+static bool flip(Copy &copy, size_t bit, const Call &call)
 {
-    const std::vector<Call> turns = calls();
-    Copy copy(bytes);
-    size_t good = 0;
-    for (size_t bit = first; bit < end; bit += every) {
-        size_t at = bit / 8;
-        copy.wanted[at] ^= uint8_t(1 << bit % 8);
-        copy.region.data()[at] = copy.wanted[at];
-        good += copy.agrees(turns[bit / every % turns.size()], bit);
-        copy.wanted[at] = copy.region.data()[at] = bytes[at];
-    }
+    uint8_t &wanted = copy.wanted[bit / 8], &lent = copy.region.data()[bit / 8];
+    lent = wanted ^= uint8_t(1 << bit % 8);
+    bool good = copy.agrees(call, bit);
+    lent = wanted ^= uint8_t(1 << bit % 8);
     return good;
 }
 
-// The bits are shared out among the machine's processors.
-static void flip_all(const Store &store, size_t every)
+// One bit of each group of so many, from one group to another. Its place in the group wanders: where groups are whole bytes, a
+// place that stayed would be the same bit of a byte in each of them.
+static void flip_groups(const Bytes &bytes, size_t first, size_t end, size_t size)
 {
-    const Bytes bytes = encode(store);
-    size_t workers = std::max(1u, std::thread::hardware_concurrency()), share = REGION * 8 / workers + 1;
+    const std::vector<Call> turns = calls();
+    Copy copy(bytes);
+    for (size_t group = first; group < end; group++) {
+        size_t bit = group * size + (uint32_t(group * 2654435761u) >> 16) % size;
+        if (bit < REGION * 8)
+            flip(copy, bit, turns[group % turns.size()]);
+    }
+}
+
+// The groups are shared out among the machine's processors. Which bits are turned over does not depend on how many there are.
+static void flip_share(const Bytes &bytes, size_t size)
+{
+    size_t groups = (REGION * 8 - 1) / size + 1;
+    size_t workers = std::max(1u, std::thread::hardware_concurrency()), share = groups / workers + 1;
     std::vector<std::thread> threads;
-    std::vector<size_t> good(workers);
     for (size_t i = 0; i < workers; i++)
-        threads.emplace_back([&, i] { good[i] = flip(bytes, i * share, std::min((i + 1) * share, REGION * 8), every); });
+        threads.emplace_back([&, i] { flip_groups(bytes, i * share, std::min((i + 1) * share, groups), size); });
     for (std::thread &thread : threads)
         thread.join();
-    size_t all = 0;
-    for (size_t count : good)
-        all += count;
-    check(all > 0, "some bit can be turned over, and the region is good still");
+}
+
+// Few bits may all be of one kind, the ones that must not be turned over. So that the region is taken for good where it is, and
+// for bad where it is not, some bits of both kinds are always turned over: docs/LAYOUT.md leaves a line's message free, and fixes
+// the version and the length.
+static void flip_known(const Store &store, const Bytes &bytes)
+{
+    const std::vector<Call> turns = calls();
+    Copy copy(bytes);
+    for (size_t i = 0; i < store.lines.size(); i++)
+        for (size_t bit = 8 * (LINES.slot(i) + 20); bit < 8 * LINES.slot(i + 1); bit++)
+            check(flip(copy, bit, turns[bit % turns.size()]),
+                  "bit " + std::to_string(bit) + ", of a message, is turned over, and the region is good no more");
+    for (size_t bit = 0; bit < 8 * AT_SETTING; bit++)
+        check(!flip(copy, bit, turns[bit % turns.size()]),
+              "bit " + std::to_string(bit) + ", of the version or the length, is turned over, and the region is good still");
 }
 
 void test_flips(size_t every)
 {
-    flip_all(busy(), every);
-    flip_all(prepared(), every);
+    for (const Store &store : {busy(), prepared()}) {
+        const Bytes bytes = encode(store);
+        flip_known(store, bytes);
+        flip_share(bytes, every);
+    }
 }

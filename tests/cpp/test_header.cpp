@@ -1,4 +1,5 @@
-// The header: its constants are those of docs/SPEC.md and docs/LAYOUT.md, its reader of places is right, and it serves C.
+// The header: its constants are those of docs/SPEC.md, docs/LAYOUT.md and docs/ABI.md, its reader of places is right, and it serves
+// C.
 #include "check.h"
 #include "dehlbazin.h"
 #include "image.h"
@@ -8,6 +9,11 @@
 
 extern "C" uint64_t first_name_from_c(uint8_t *region, size_t region_len, uint32_t *number);
 
+#if DEHLBAZIN_VERSION != 1000
+#error "the version is not 0.1.0, or #if cannot read it"
+#endif
+static_assert(DEHLBAZIN_VERSION_MAJOR == 0 && DEHLBAZIN_VERSION_MINOR == 1 && DEHLBAZIN_VERSION_PATCH == 0);
+static_assert(DEHLBAZIN_LAYOUT_VERSION == 1);
 static_assert(DEHLBAZIN_REGION_SIZE == REGION && DEHLBAZIN_ANSWER_SIZE == 16 * 8);
 
 static_assert(DEHLBAZIN_DONE == 0 && DEHLBAZIN_BAD_REGION == 1 && DEHLBAZIN_MALFORMED == 2);
@@ -29,6 +35,30 @@ static_assert(DEHLBAZIN_EXPECTED_ANY == ANY && DEHLBAZIN_EXPECTED_MUST_EXIST == 
 static_assert(DEHLBAZIN_EXPECTED_MUST_NOT_EXIST == MUST_NOT_EXIST);
 static_assert(DEHLBAZIN_EXPECTED_MUST_EXIST_AND_MATCH == MUST_EXIST_AND_MATCH);
 static_assert(DEHLBAZIN_EXPECTED_EXISTING_MUST_MATCH == EXISTING_MUST_MATCH);
+
+// The record ends where nothing may be read, and no place but the first sixteen is read: not even where eight times the place is
+// a small number again.
+static void test_place()
+{
+    Lent record(DEHLBAZIN_ANSWER_SIZE);
+    for (size_t i = 0; i < record.size(); i++)
+        record.data()[i] = uint8_t(i + 128);
+    check(dehlbazin_place(record.data(), 0) == 0x8081828384858687, "place 0");
+    check(dehlbazin_place(record.data(), 15) == 0xF8F9FAFBFCFDFEFF, "place 15");
+    for (size_t past : {size_t(16), size_t(17), SIZE_MAX / 8, SIZE_MAX / 8 + 1, SIZE_MAX / 8 + 16, SIZE_MAX - 1, SIZE_MAX})
+        check(dehlbazin_place(record.data(), past) == 0, "place " + std::to_string(past) + " is not 0");
+}
+
+// Byte 0 of an image is the layout's version, in one that the archive writes and in our own.
+static void test_layout_version()
+{
+    Bytes region(DEHLBAZIN_REGION_SIZE, 0xEE), answer(DEHLBAZIN_ANSWER_SIZE);
+    uint32_t number =
+        dehlbazin_start(region.data(), region.size(), DEHLBAZIN_SETTING_NORMAL, answer.data(), answer.size());
+    check(number == DEHLBAZIN_DONE && region[0] == DEHLBAZIN_LAYOUT_VERSION, "the version of a region that is started");
+    for (const Store &store : {Store{}, busy(), prepared()})
+        check(encode(store)[0] == DEHLBAZIN_LAYOUT_VERSION, "the version of an image");
+}
 
 // One place of the answer to a call on a store.
 static uint64_t place_of(uint32_t number, const Bytes &answer, size_t place)
@@ -76,11 +106,8 @@ static void test_places()
 
 void test_header()
 {
-    Bytes record(DEHLBAZIN_ANSWER_SIZE);
-    for (size_t i = 0; i < record.size(); i++)
-        record[i] = uint8_t(i + 128);
-    check(dehlbazin_place(record.data(), 0) == 0x8081828384858687, "place 0");
-    check(dehlbazin_place(record.data(), 15) == 0xF8F9FAFBFCFDFEFF, "place 15");
+    test_place();
+    test_layout_version();
     test_places();
 
     Lent region(encode(Store{}));

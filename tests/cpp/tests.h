@@ -12,4 +12,4 @@ void test_log();
 void test_prepared();
 void test_rules();
 void test_random();
-void test_flips(size_t every); // turns over every so manyth bit
+void test_flips(size_t every); // turns over one bit of each so many
