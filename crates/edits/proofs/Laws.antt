@@ -2,25 +2,32 @@
 use mathlib.Core.Path.{_≡_, refl, sym, ap, ap₂, _∙_}
 use mathlib.Core.Bool.{Bool, true, false, _&&_, cond}
 use mathlib.Core.List.{List}
-use mathlib.Core.Option.{Option, none, some}
-use Prim.Native.Nat.{ℕ, zero, suc, _+_, _-_, _≤_, _<_, _%_, _^_}
+use mathlib.Core.Option.{none, some}
+use Prim.Native.Nat.{ℕ, zero, suc, _+_, _≤_, _<_, _%_, _^_}
 use native.Mathlib.Omega.{arith}
 use lib.Dec.{eqb, leb}
-use borrow.Author.Tests.{ne-eqb}
+use borrow.Author.Tests.{eq-eqb, ne-eqb}
 use Rattle.word.specs.Be.{cut, val}
-use Rattle.target.specs.declared.Target.the-variants.{Symbolic}
+use Rattle.word.specs.Codec.{isSome}
+use Rattle.target.specs.declared.NameNumber.{NameNumber}
+use Rattle.target.specs.declared.ObjectNumber.{ObjectNumber}
+use Rattle.target.specs.declared.Target.the-variants.{Object, Symbolic}
 use Rattle.target.specs.declared.OptionTarget.{OptionTarget}
 use Rattle.target.specs.declared.OptionTarget.the-variants.{Present}
+use Rattle.transaction.specs.declared.LogChange.{LogChange}
 use Rattle.transaction.specs.declared.RefLog.{RefLog}
 use Rattle.transaction.specs.declared.OptionRefLog.{OptionRefLog}
 use Rattle.transaction.specs.declared.OptionRefLog.the-variants as refLog
 use Rattle.transaction.specs.declared.PreviousValue.{PreviousValue}
+use Rattle.transaction.specs.declared.PreviousValue.the-variants.{Any}
 use Rattle.transaction.specs.declared.OptionPrevious.{OptionPrevious}
 use Rattle.transaction.specs.declared.OptionPrevious.the-variants.{NoPrevious, Previous}
 use Rattle.transaction.specs.declared.Change.{Change}
+use Rattle.transaction.specs.declared.Change.the-variants.{Update}
 use Rattle.transaction.specs.declared.RefEdit.{RefEdit}
-use Rattle.transaction.specs.Fields.{refLogOf, refLogOption, previousOf, previousOption}
-use Rattle.model.specs.EditList.{_>>=_, flagOf, targetOf, changeOf, byteAt}
+use Rattle.transaction.specs.Change.{defaultLog}
+use Rattle.transaction.specs.Fields.{refLogOf, previousOf, previousOption}
+use Rattle.model.specs.EditList.{flagOf, targetOf, changeOf, byteAt, editOf}
 use Rattle.slots.specs.declared.OptionOptionTarget.{OptionOptionTarget}
 use Rattle.slots.specs.declared.OptionOptionTarget.the-variants.{NoTarget}
 use Rattle.slots.specs.declared.OptionOptionTarget.the-variants as optionTarget
@@ -29,10 +36,12 @@ use Rattle.slots.specs.declared.OptionChange.the-variants.{NoChange}
 use Rattle.slots.specs.declared.OptionChange.the-variants as optionChange
 use Rattle.slots.specs.Values.{targetFrom}
 use Rattle.slots.specs.Row.{targetOption, changeOption}
-use Rattle.edits.specs.Read.{targetLow, targetBy, expectedBy, changeBy, editBy}
-
-pub lent : (a w x : ℕ) (s : List ℕ) → x ≡ val (cut a (a + w - a) s) → x ≡ val (cut a w s)
-lent a w x s e = let k : a + w - a ≡ w = omega arith in e ∙ ap (λ (n : ℕ). val (cut a n s)) k
+use Rattle.edits.specs.declared.OptionEdit.{OptionEdit}
+use Rattle.edits.specs.declared.OptionEdit.the-variants.{NoEdit}
+use Rattle.edits.specs.declared.OptionEdit.the-variants as optionEdit
+use Rattle.edits.specs.Read.{targetLow, targetBy, expectedBy, changeBy, editBy, editOption}
+use Rattle.edits.specs.Edits.{noEdit}
+use Rattle.edits.proofs.Model.{same-form}
 
 flag-past : (x : ℕ) → 1 < x → flagOf x ≡ none
 flag-past zero h = absurd (omega arith)
@@ -63,7 +72,8 @@ pub target-in : (s : List ℕ) (a k x : ℕ) (o : OptionOptionTarget) → k ≡ 
 unfolding targetBy
 target-in s a k x o e f h = h ∙ ap₂ targetLow e f
 
-pub no-expected : (s : List ℕ) (o : OptionOptionTarget) → targetOption o ≡ targetBy targetLow 5 s → o ≡ NoTarget → none ≡ expectedBy targetLow s
+pub no-expected : (s : List ℕ) (o : OptionOptionTarget)
+    → targetOption o ≡ targetBy targetLow 5 s → o ≡ NoTarget → none ≡ expectedBy targetLow s
 unfolding expectedBy
 no-expected s o e h = rw (← e, h)
 
@@ -119,3 +129,28 @@ module _ (s : List ℕ) (deref : ℕ) (ed : deref ≡ byteAt 1 s) where
         → u ≡ record { change = change; name = record { 0 = name }; deref = eqb deref 1 } → some u ≡ editBy targetLow s
     unfolding editBy
     edit-in change name u h en eu = rw (← ed, flag-is deref f, ← e, h, eu, en)
+
+-- ---- whether there is one
+
+module _ (s : List ℕ) (o : OptionEdit) (e : editOption o ≡ editBy targetLow s) where
+  pub is-not-edit : o ≡ NoEdit → false ≡ isSome (editOf s)
+  is-not-edit h = ap (λ (o : OptionEdit). isSome (editOption o)) (sym h) ∙ ap isSome e ∙ same-form s
+
+  pub is-an-edit : (x : RefEdit) → o ≡ optionEdit.Edit x → true ≡ isSome (editOf s)
+  is-an-edit x h = ap (λ (o : OptionEdit). isSome (editOption o)) (sym h) ∙ ap isSome e ∙ same-form s
+
+-- what stands past the edits
+pub no-edit : (log : LogChange) (o : ObjectNumber) (n : NameNumber) (r : RefEdit) → log ≡ defaultLog → o .0 ≡ 0 → n ≡ record { 0 = 0 }
+    → r ≡ record { change = Update log Any (Object o); name = n; deref = false } → r ≡ noEdit
+no-edit log o n r a b c e =
+    rw (e, a, c)
+    (ap (λ (x : ℕ). record { change = Update defaultLog Any (Object (record { 0 = x })); name = record { 0 = 0 }; deref = false }) b)
+
+-- ---- a link
+
+module _ (s : List ℕ) (a n k : ℕ) (e : k ≡ byteAt a s) where
+  pub no-link : (k ≡ 2 → ⊥) → false ≡ (eqb (byteAt a s) 2 && leb n (val (cut (a + 1) 8 s)))
+  no-link h = ap (λ (t : Bool). t && leb n (val (cut (a + 1) 8 s))) (sym (ne-eqb (byteAt a s) 2 (λ q. h (e ∙ q))))
+
+  pub link : (x : ℕ) → k ≡ 2 → x ≡ val (cut (a + 1) 8 s) → leb n x ≡ (eqb (byteAt a s) 2 && leb n (val (cut (a + 1) 8 s)))
+  link x h f = ap (leb n) f ∙ ap (λ (t : Bool). t && leb n (val (cut (a + 1) 8 s))) (sym (eq-eqb (byteAt a s) 2 (sym e ∙ h)))

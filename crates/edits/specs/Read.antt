@@ -1,6 +1,6 @@
 -- A record of the edit list, read by its 27 bytes. A link's number is read by its low 16 bits: whether a record is well formed
 -- does not depend on it, and once every number is known to be registered it is the number.
-use mathlib.Core.Bool.{Bool, cond}
+use mathlib.Core.Bool.{cond}
 use mathlib.Core.List.{List}
 use mathlib.Core.Option.{Option, none, some}
 use Prim.Native.Nat.{ℕ, zero, suc, _+_, _%_}

@@ -112,7 +112,7 @@ loose-same (suc zero) x k f l h =
   where
     positive : (x : ℕ) → (ltb 0 x && true) ≡ not (eqb x 0)
     positive zero = refl
-    positive (suc x) = refl
+    positive (suc x) = let p : 0 < suc x = omega arith in rw (lt-ltb 0 (suc x) p, ne-eqb (suc x) 0 (λ e. omega arith))
 
     go : (b : Bool)
         → (cond b none (some (Present (Object (record { 0 = x })))) >>=ₒ λ t. some (unbroken t))
@@ -124,7 +124,8 @@ loose-same (suc (suc zero)) x k f l h =
     let small : x < 2 ^ 16 = omega arith in
     rw (lt-leb (2 ^ 16) x small)
 loose-same (suc (suc (suc zero))) x k f l h = refl
-loose-same (suc (suc (suc (suc kind)))) x k f l h = refl
+loose-same (suc (suc (suc (suc kind)))) x k f l h =
+    rw (ne-eqb (suc (suc (suc (suc kind)))) 3 (λ e. omega arith), ne-eqb (suc (suc (suc (suc kind)))) 2 (λ e. omega arith))
 
 loose-fits : (kind x : ℕ) (v : Loose) → Fits w64 x → looseFrom kind x ≡ some v → FitsLoose v
 loose-fits kind x v f h = let p : x < 2 ^ 64 = f .fits in loose-back kind x v h p .2

@@ -84,7 +84,7 @@ refused-1 = record { number = 1; places = 0 ∷ 0 ∷ 0 ∷ 0 ∷ 0 ∷ 0 ∷ 0 
 
 module _ (n : ℕ) (r : List ℕ) (ok : Bool) (is : ok ≡ good r) where
   pub part-bad : not ok ≡ true → [] ≡ namePart n r
-  unfolding namePart refusalAnswer
+  unfolding namePart refusalAnswer refused-1
   part-bad h = rw (← bad-region (nameBytes n) r ok is refl refused-1 h refl .answer)
 
   module _ (y : not ok ≡ false) (o : OptionName) (e : o ≡ nameBelow (count (view r)) n) where
@@ -144,7 +144,7 @@ module _ (n : ℕ) (r p : List ℕ) (e : p ≡ namePart n r) where
     pub fits-offset : Fits w64 (13 + n * 65 + 1)
     fits-offset = record { fits = let k : n < 256 = small in let q : 13 + n * 65 + 1 < 2 ^ 64 = omega arith in q }
 
-    pub bytes-done : (v : Verdict) → answerBy v ≡ answer 0 (13 + n * 65 + 1 ∷ length p ∷ []) → Replied v r r (replyTo (nameBytes n) r)
+    pub bytes-done : (v : Verdict) → answerBy v ≡ answer 0 ((13 + n * 65 + 1) ∷ length p ∷ []) → Replied v r r (replyTo (nameBytes n) r)
     unfolding step bytesGiven
     bytes-done v a =
         let f = full-known h in

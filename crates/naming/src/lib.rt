@@ -49,7 +49,11 @@ pub fn name_bytes(region: &[u8], name: u64) -> Verdict
     let length = part.len() as u64;
     if length != 0 {
         let width = Layout::NAME_WIDTH as u64;
-        return Verdict::two(Answer::DONE, (Layout::NAMES as u64) + name * width + 1, length);
+        return Verdict::two(
+            Answer::DONE,
+            (Layout::NAMES as u64) + name * width + 1,
+            length,
+        );
     }
     if !good::is_good(region) {
         return Verdict::bare(Answer::BAD_REGION);

@@ -1,54 +1,45 @@
+use Prim.Native.Nat.{_-_}
+use lib.ListN.{length}
+use borrow.Author.Needs.{needs}
+use Rattle.edits.proofs.Lists.{Left, left-start, left-more, left-fails, left-end}
 use Rattle.edits.proofs.are_edits.Statement.{statement}
 use Rattle.edits.proofs.are_edits.Tie as tie
-use Rattle.edits.proofs.are_edits.Reads as reads
-use Rattle.edits.proofs.are_edits.Lts as lts
-use Rattle.edits.proofs.is_edit.Reads as is-edit-reads
 
 abbrev Inv-loop : tie.InvT-loop
-Inv-loop list at₀ at = ?
+Inv-loop list at₀ at = Left list at
 
 abbrev μ-loop : tie.MeasureT-loop
-μ-loop list at₀ at = ?
+μ-loop list at₀ at = length list - at
 
--- src/lib.rt:195:5
 loop-holds : tie.Need-loop-holds Inv-loop μ-loop
-loop-holds c = ?
+loop-holds c = search left-start
 
--- src/lib.rt:196:17
 add-e : tie.Need-add-e Inv-loop μ-loop
-add-e c = ?
+add-e c = search needs
 
--- src/lib.rt:197:26
 sub-is-edit : tie.Need-sub-is-edit Inv-loop μ-loop
-sub-is-edit c = ?
+sub-is-edit c = search needs
 
--- src/lib.rt:197:26
 part-is-edit-start : tie.Need-part-is-edit-start Inv-loop μ-loop
-part-is-edit-start c = ?
+part-is-edit-start c = search needs
 
--- src/lib.rt:197:26
 part-is-edit-end : tie.Need-part-is-edit-end Inv-loop μ-loop
-part-is-edit-end c = ?
+part-is-edit-end c = search needs
 
--- src/lib.rt:197:13
 is-edit-requires : tie.Need-is-edit-requires Inv-loop μ-loop
-is-edit-requires c κs = ?
+is-edit-requires c κs = search needs
 
--- src/lib.rt:195:5
 loop-less : tie.Need-loop-less Inv-loop μ-loop
-loop-less c = ?
+loop-less c = search needs
 
--- src/lib.rt:195:5
 loop-again : tie.Need-loop-again Inv-loop μ-loop
-loop-again c = ?
+loop-again c = search left-more
 
--- src/lib.rt:201:13
 returns : tie.Need-returns Inv-loop μ-loop
-returns c = ?
+returns c = search left-fails
 
--- src/lib.rt:190:1
 returns-2 : tie.Need-returns-2 Inv-loop μ-loop
-returns-2 c = ?
+returns-2 c = search left-end
 
 pub are-edits-spec : {M : Type 1} → statement M
 are-edits-spec =

@@ -1,62 +1,53 @@
+use Prim.Native.Nat.{_-_}
+use lib.ListN.{length}
+use borrow.Author.Needs.{needs}
+use Rattle.edits.proofs.Lists.{Ahead, ahead-start, ahead-part, ahead-more, ahead-out, ahead-end}
 use Rattle.edits.proofs.first_out.Statement.{statement}
 use Rattle.edits.proofs.first_out.Tie as tie
-use Rattle.edits.proofs.first_out.Reads as reads
-use Rattle.edits.proofs.first_out.Lts as lts
-use Rattle.edits.proofs.number_out.Reads as number-out-reads
 
 abbrev Inv-loop : tie.InvT-loop
-Inv-loop list names at₀ at = ?
+Inv-loop list names at₀ at = Ahead names list at
 
 abbrev μ-loop : tie.MeasureT-loop
-μ-loop list names at₀ at = ?
+μ-loop list names at₀ at = length list - at
 
--- src/lib.rt:262:5
 loop-holds : tie.Need-loop-holds Inv-loop μ-loop
-loop-holds c = ?
+loop-holds c = search ahead-start
 
--- src/lib.rt:263:17
 add-e : tie.Need-add-e Inv-loop μ-loop
-add-e c = ?
+add-e c = search needs
 
--- src/lib.rt:264:30
 sub-number-out : tie.Need-sub-number-out Inv-loop μ-loop
-sub-number-out c = ?
+sub-number-out c = search needs
 
--- src/lib.rt:264:30
 part-number-out-start : tie.Need-part-number-out-start Inv-loop μ-loop
-part-number-out-start c = ?
+part-number-out-start c = search needs
 
--- src/lib.rt:264:30
 part-number-out-end : tie.Need-part-number-out-end Inv-loop μ-loop
-part-number-out-end c = ?
+part-number-out-end c = search needs
 
--- src/lib.rt:264:13
 number-out-requires : tie.Need-number-out-requires Inv-loop μ-loop
-number-out-requires c κs = ?
+number-out-requires c κs =
+    let a = c .before .before in
+    ahead-part (a .before .before .args .names) (a .before .before .args .list .now) (a .loop .at) (a .loop .inv) (search needs)
 
--- src/lib.rt:266:39
 enum-told : tie.Need-enum-told Inv-loop μ-loop
-enum-told c = ?
+enum-told c = search needs
 
--- src/lib.rt:262:5
 loop-less : tie.Need-loop-less Inv-loop μ-loop
-loop-less c = ?
+loop-less c = search needs
 
--- src/lib.rt:262:5
 loop-again : tie.Need-loop-again Inv-loop μ-loop
-loop-again c = ?
+loop-again c = search ahead-more
 
--- src/lib.rt:267:40
 enum-told-2 : tie.Need-enum-told-2 Inv-loop μ-loop
-enum-told-2 c = ?
+enum-told-2 c = search needs
 
--- src/lib.rt:267:40
 returns : tie.Need-returns Inv-loop μ-loop
-returns c = ?
+returns c = search ahead-out
 
--- src/lib.rt:257:1
 returns-2 : tie.Need-returns-2 Inv-loop μ-loop
-returns-2 c = ?
+returns-2 c = search ahead-end
 
 pub first-out-spec : {M : Type 1} → statement M
 first-out-spec =

@@ -1,28 +1,34 @@
+use borrow.Author.Needs.{needs}
+use Rattle.edits.proofs.Lists.{record-room, followed}
 use Rattle.edits.proofs.is_followed.Statement.{statement}
 use Rattle.edits.proofs.is_followed.Tie as tie
-use Rattle.edits.proofs.is_followed.Reads as reads
-use Rattle.edits.proofs.is_followed.Lts as lts
-use Rattle.edits.proofs.byte_at.Reads as byte-at-reads
 
--- src/lib.rt:281:34
 mul-at : tie.Need-mul-at
-mul-at c = ?
+mul-at c =
+    let a = c .before in
+    let r = record-room (a .args .list .now) (a .args .i) (a .pre .0) (a .pre .1) in
+    search needs
 
--- src/lib.rt:281:14
 add-at : tie.Need-add-at
-add-at c = ?
+add-at c =
+    let a = c .before in
+    let r = record-room (a .args .list .now) (a .args .i) (a .pre .0) (a .pre .1) in
+    search needs
 
--- src/lib.rt:282:19
 add-byte-at : tie.Need-add-byte-at
-add-byte-at c = ?
+add-byte-at c =
+    let a = c .before in
+    let r = record-room (a .args .list .now) (a .args .i) (a .pre .0) (a .pre .1) in
+    search needs
 
--- src/lib.rt:282:5
 byte-at-requires : tie.Need-byte-at-requires
-byte-at-requires c κs = ?
+byte-at-requires c κs =
+    let a = c .before in
+    let r = record-room (a .args .list .now) (a .args .i) (a .pre .0) (a .pre .1) in
+    search needs
 
--- src/lib.rt:276:1
 returns : tie.Need-returns
-returns c = ?
+returns c = search followed
 
 pub is-followed-spec : {M : Type 1} → statement M
 is-followed-spec = tie.close (tie.spec mul-at add-at add-byte-at byte-at-requires returns)

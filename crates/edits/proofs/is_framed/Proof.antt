@@ -1,54 +1,47 @@
+use Rattle.edits.proofs.Lists.{frame-short, frame-version, length-fits, frame-length, frame-many, frame-rest}
 use borrow.Author.Needs.{needs}
 use Rattle.edits.proofs.is_framed.Statement.{statement}
 use Rattle.edits.proofs.is_framed.Tie as tie
-use Rattle.edits.proofs.is_framed.Reads as reads
-use Rattle.edits.proofs.is_framed.Lts as lts
-use Rattle.edits.proofs.byte_at.Reads as byte-at-reads
-use Rattle.word.proofs.get_at.Reads as get-at-reads
 
--- src/lib.rt:174:9
 returns : tie.Need-returns
-returns c = ?
+returns c = search frame-short
 
--- src/lib.rt:176:8
 byte-at-requires : tie.Need-byte-at-requires
 byte-at-requires c κs = search needs
 
--- src/lib.rt:177:9
 returns-2 : tie.Need-returns-2
-returns-2 c = ?
+returns-2 c = search frame-version
 
--- src/lib.rt:179:13
 get-at-requires : tie.Need-get-at-requires
 get-at-requires c κs = search needs
 
--- src/lib.rt:179:8
 add-if3 : tie.Need-add-if3
-add-if3 c = ?
+add-if3 c =
+    let a = c .before .before .before in
+    let l = length-fits (a .before .before .args .list .now) (a .before .shared-slice-known .given) _ (c .get-at .ensures) in
+    search needs
 
--- src/lib.rt:180:9
 returns-3 : tie.Need-returns-3
-returns-3 c = ?
+returns-3 c = search frame-length
 
--- src/lib.rt:182:17
 byte-at-requires-2 : tie.Need-byte-at-requires-2
 byte-at-requires-2 c κs = search needs
 
--- src/lib.rt:184:9
 returns-4 : tie.Need-returns-4
-returns-4 c = ?
+returns-4 c =
+    let a = c .before .before .before .before .before .before .before .before in
+    frame-many (a .args .list .now) _ (c .before .byte-at2 .ensures) (search needs)
 
--- src/lib.rt:186:25
 mul-result : tie.Need-mul-result
 mul-result c = search needs
 
--- src/lib.rt:186:5
 add-result : tie.Need-add-result
 add-result c = search needs
 
--- src/lib.rt:170:1
 returns-5 : tie.Need-returns-5
-returns-5 c = ?
+returns-5 c =
+    let a = c .before .before .before .before .before .before .before in
+    search (frame-rest (a .before .args .list .now) (a .shared-slice-known .given))
 
 pub is-framed-spec : {M : Type 1} → statement M
 is-framed-spec =

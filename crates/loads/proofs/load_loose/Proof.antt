@@ -1,12 +1,15 @@
 use borrow.Author.Needs.{needs}
 use Rattle.calls.proofs.Replies.{good-laid, bad-region}
 use Rattle.calls.proofs.Known.{near}
-use Rattle.loads.proofs.Laws.{loose-room, loose-busy, loose-far, loose-stray, loose-bad, loose-done}
+use Rattle.loads.proofs.Laws.{loose-busy, loose-far, loose-stray, loose-bad, loose-room, loose-done}
 use Rattle.loads.proofs.load_loose.Statement.{statement}
 use Rattle.loads.proofs.load_loose.Tie as tie
 
 is-good-requires : tie.Need-is-good-requires
 is-good-requires c κs = search needs
+
+bare-requires : tie.Need-bare-requires
+bare-requires c κs = search needs
 
 same-length : tie.Need-same-length
 same-length c = search needs
@@ -17,14 +20,26 @@ returns c = search bad-region
 mode-number-requires : tie.Need-mode-number-requires
 mode-number-requires c κs = search good-laid
 
+bare-requires-2 : tie.Need-bare-requires-2
+bare-requires-2 c κs = search needs
+
 same-length-2 : tie.Need-same-length-2
 same-length-2 c = search needs
 
 returns-2 : tie.Need-returns-2
 returns-2 c = search loose-busy
 
-count-names-requires : tie.Need-count-names-requires
-count-names-requires c κs = search good-laid
+known-requires : tie.Need-known-requires
+known-requires c κs = search good-laid
+
+enum-known-n : tie.Need-enum-known-n
+enum-known-n c = search needs
+
+enum-told : tie.Need-enum-told
+enum-told c = search needs
+
+one-requires : tie.Need-one-requires
+one-requires c κs = search needs
 
 same-length-3 : tie.Need-same-length-3
 same-length-3 c = search needs
@@ -35,15 +50,14 @@ returns-3 c = search loose-far
 is-stray-link-requires : tie.Need-is-stray-link-requires
 is-stray-link-requires c κs = search good-laid
 
+one-requires-2 : tie.Need-one-requires-2
+one-requires-2 c κs = search needs
+
 same-length-4 : tie.Need-same-length-4
 same-length-4 c = search needs
 
 returns-4 : tie.Need-returns-4
-returns-4 c =
-    let named = c .before .before .before in
-    let idle = named .before .before .before in
-    let tested = idle .before .before .before in
-    loose-stray _ _ _ _ _ (tested .before .is-good .ensures) (tested .if1 .left) _ (idle .before .mode-number .ensures) (idle .if2 .left) _ (named .before .count-names .ensures) (named .if3 .left) _ (c .before .is-stray-link .ensures) (c .if4 .taken)
+returns-4 c = search loose-stray
 
 loose-from-requires : tie.Need-loose-from-requires
 loose-from-requires c κs = search needs
@@ -51,8 +65,11 @@ loose-from-requires c κs = search needs
 enum-known-value : tie.Need-enum-known-value
 enum-known-value c = search needs
 
-enum-told : tie.Need-enum-told
-enum-told c = search needs
+enum-told-2 : tie.Need-enum-told-2
+enum-told-2 c = search needs
+
+bare-requires-3 : tie.Need-bare-requires-3
+bare-requires-3 c κs = search needs
 
 same-length-5 : tie.Need-same-length-5
 same-length-5 c = search needs
@@ -62,8 +79,11 @@ returns-5 c = search loose-bad
 
 put-loose-at-requires : tie.Need-put-loose-at-requires
 put-loose-at-requires c κs =
-    let named = c .before .before .before .before .before .before .before .before in
-    (search good-laid, (near _ _ _ (named .before .count-names .ensures) (named .if3 .left), search loose-room))
+    let named = c .before .before .before .before .before .before .before .before .before in
+    (search good-laid, (near _ _ _ _ (named .before .before .known .ensures) (named .n .given .1), search loose-room))
+
+bare-requires-4 : tie.Need-bare-requires-4
+bare-requires-4 c κs = search needs
 
 same-length-6 : tie.Need-same-length-6
 same-length-6 c = search needs
@@ -76,22 +96,30 @@ load-loose-spec =
     tie.close
     (tie.spec
     is-good-requires
+    bare-requires
     same-length
     returns
     mode-number-requires
+    bare-requires-2
     same-length-2
     returns-2
-    count-names-requires
+    known-requires
+    enum-known-n
+    enum-told
+    one-requires
     same-length-3
     returns-3
     is-stray-link-requires
+    one-requires-2
     same-length-4
     returns-4
     loose-from-requires
     enum-known-value
-    enum-told
+    enum-told-2
+    bare-requires-3
     same-length-5
     returns-5
     put-loose-at-requires
+    bare-requires-4
     same-length-6
     returns-6)

@@ -1,11 +1,14 @@
 use borrow.Author.Needs.{needs}
 use Rattle.calls.proofs.Replies.{good-laid, bad-region}
-use Rattle.naming.proofs.Laws.{name-room, count-room, add-bad, add-found, add-full, add-done}
+use Rattle.naming.proofs.Laws.{add-bad, add-found, add-full, count-room, name-room, add-done}
 use Rattle.naming.proofs.add_name.Statement.{statement}
 use Rattle.naming.proofs.add_name.Tie as tie
 
 is-good-requires : tie.Need-is-good-requires
 is-good-requires c κs = search needs
+
+bare-requires : tie.Need-bare-requires
+bare-requires c κs = search needs
 
 same-length : tie.Need-same-length
 same-length c = search needs
@@ -16,6 +19,9 @@ returns c = search bad-region
 is-name-requires : tie.Need-is-name-requires
 is-name-requires c κs = search needs
 
+bare-requires-2 : tie.Need-bare-requires-2
+bare-requires-2 c κs = search needs
+
 same-length-2 : tie.Need-same-length-2
 same-length-2 c = search needs
 
@@ -25,8 +31,14 @@ returns-2 c = search add-bad
 find-name-requires : tie.Need-find-name-requires
 find-name-requires c κs = search good-laid
 
-enum-known-n : tie.Need-enum-known-n
-enum-known-n c = search needs
+enum-known-known : tie.Need-enum-known-known
+enum-known-known c = search needs
+
+cast-one : tie.Need-cast-one
+cast-one c = search needs
+
+one-requires : tie.Need-one-requires
+one-requires c κs = search needs
 
 same-length-3 : tie.Need-same-length-3
 same-length-3 c = search needs
@@ -40,6 +52,9 @@ enum-told c = search needs
 count-names-requires : tie.Need-count-names-requires
 count-names-requires c κs = search good-laid
 
+bare-requires-3 : tie.Need-bare-requires-3
+bare-requires-3 c κs = search needs
+
 same-length-4 : tie.Need-same-length-4
 same-length-4 c = search needs
 
@@ -48,6 +63,9 @@ returns-4 c = search add-full
 
 add-name-requires : tie.Need-add-name-requires
 add-name-requires c κs = (search good-laid, (count-room _ _ (c .before .before .count-names .ensures) (c .before .if3 .left), search name-room))
+
+one-requires-2 : tie.Need-one-requires-2
+one-requires-2 c κs = search needs
 
 same-length-5 : tie.Need-same-length-5
 same-length-5 c = search needs
@@ -60,19 +78,25 @@ add-name-spec =
     tie.close
     (tie.spec
     is-good-requires
+    bare-requires
     same-length
     returns
     is-name-requires
+    bare-requires-2
     same-length-2
     returns-2
     find-name-requires
-    enum-known-n
+    enum-known-known
+    cast-one
+    one-requires
     same-length-3
     returns-3
     enum-told
     count-names-requires
+    bare-requires-3
     same-length-4
     returns-4
     add-name-requires
+    one-requires-2
     same-length-5
     returns-5)

@@ -1,5 +1,5 @@
 use borrow.Author.Needs.{needs}
-use Rattle.calls.proofs.Replies.{bad-region}
+use Rattle.calls.proofs.Replies.{good-laid, bad-region}
 use Rattle.naming.proofs.Laws.{fits-product, fits-base, fits-offset, bytes-done, bytes-far}
 use Rattle.naming.proofs.name_bytes.Statement.{statement}
 use Rattle.naming.proofs.name_bytes.Tie as tie
@@ -7,14 +7,17 @@ use Rattle.naming.proofs.name_bytes.Tie as tie
 name-part-requires : tie.Need-name-part-requires
 name-part-requires c κs = search needs
 
-mul-t8 : tie.Need-mul-t8
-mul-t8 c = search fits-product
+mul-two : tie.Need-mul-two
+mul-two c = search fits-product
 
-add-t9 : tie.Need-add-t9
-add-t9 c = search fits-base
+add-two : tie.Need-add-two
+add-two c = search fits-base
 
-add-t10 : tie.Need-add-t10
-add-t10 c = search fits-offset
+add-two-2 : tie.Need-add-two-2
+add-two-2 c = search fits-offset
+
+two-requires : tie.Need-two-requires
+two-requires c κs = search needs
 
 returns : tie.Need-returns
 returns c = search bytes-done
@@ -22,8 +25,14 @@ returns c = search bytes-done
 is-good-requires : tie.Need-is-good-requires
 is-good-requires c κs = search needs
 
+bare-requires : tie.Need-bare-requires
+bare-requires c κs = search needs
+
 returns-2 : tie.Need-returns-2
 returns-2 c = search bad-region
+
+one-requires : tie.Need-one-requires
+one-requires c κs = search needs
 
 returns-3 : tie.Need-returns-3
 returns-3 c = search bytes-far
@@ -33,10 +42,13 @@ name-bytes-spec =
     tie.close
     (tie.spec
     name-part-requires
-    mul-t8
-    add-t9
-    add-t10
+    mul-two
+    add-two
+    add-two-2
+    two-requires
     returns
     is-good-requires
+    bare-requires
     returns-2
+    one-requires
     returns-3)

@@ -1,5 +1,5 @@
 use borrow.Author.Needs.{needs}
-use Rattle.calls.proofs.Replies.{good-laid}
+use Rattle.calls.proofs.Replies.{good-laid, bad-region}
 use Rattle.calls.proofs.Known.{near}
 use Rattle.naming.proofs.Laws.{part-bad, part-far, part-is}
 use Rattle.naming.proofs.name_part.Statement.{statement}
@@ -20,8 +20,14 @@ part-result-end c = search needs
 returns : tie.Need-returns
 returns c = search part-bad
 
-count-names-requires : tie.Need-count-names-requires
-count-names-requires c κs = search good-laid
+known-requires : tie.Need-known-requires
+known-requires c κs = search good-laid
+
+enum-known-n : tie.Need-enum-known-n
+enum-known-n c = search needs
+
+enum-told : tie.Need-enum-told
+enum-told c = search needs
 
 sub-result-2 : tie.Need-sub-result-2
 sub-result-2 c = search needs
@@ -50,7 +56,9 @@ name-part-spec =
     part-result-start
     part-result-end
     returns
-    count-names-requires
+    known-requires
+    enum-known-n
+    enum-told
     sub-result-2
     part-result-start-2
     part-result-end-2

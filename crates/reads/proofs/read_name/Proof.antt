@@ -1,6 +1,5 @@
 use borrow.Author.Needs.{needs}
 use Rattle.calls.proofs.Replies.{good-laid, bad-region}
-use Rattle.calls.proofs.Known.{near}
 use Rattle.reads.proofs.Laws.{name-far, name-done}
 use Rattle.reads.proofs.read_name.Statement.{statement}
 use Rattle.reads.proofs.read_name.Tie as tie
@@ -8,29 +7,38 @@ use Rattle.reads.proofs.read_name.Tie as tie
 is-good-requires : tie.Need-is-good-requires
 is-good-requires c κs = search needs
 
+bare-requires : tie.Need-bare-requires
+bare-requires c κs = search needs
+
 returns : tie.Need-returns
 returns c = search bad-region
 
-count-names-requires : tie.Need-count-names-requires
-count-names-requires c κs = search good-laid
+known-requires : tie.Need-known-requires
+known-requires c κs = search good-laid
+
+enum-known-n : tie.Need-enum-known-n
+enum-known-n c = search needs
+
+enum-told : tie.Need-enum-told
+enum-told c = search needs
+
+one-requires : tie.Need-one-requires
+one-requires c κs = search needs
 
 returns-2 : tie.Need-returns-2
 returns-2 c = search name-far
 
-loose-at-requires : tie.Need-loose-at-requires
-loose-at-requires c κs = (search good-laid, search near)
-
-packed-at-requires : tie.Need-packed-at-requires
-packed-at-requires c κs = (search good-laid, search near)
-
 value-of-requires : tie.Need-value-of-requires
-value-of-requires c κs = search needs
+value-of-requires c κs = search good-laid
 
 byte-requires : tie.Need-byte-requires
 byte-requires c κs = search needs
 
 number-requires : tie.Need-number-requires
 number-requires c κs = search needs
+
+two-requires : tie.Need-two-requires
+two-requires c κs = search needs
 
 returns-3 : tie.Need-returns-3
 returns-3 c = search name-done
@@ -40,12 +48,15 @@ read-name-spec =
     tie.close
     (tie.spec
     is-good-requires
+    bare-requires
     returns
-    count-names-requires
+    known-requires
+    enum-known-n
+    enum-told
+    one-requires
     returns-2
-    loose-at-requires
-    packed-at-requires
     value-of-requires
     byte-requires
     number-requires
+    two-requires
     returns-3)

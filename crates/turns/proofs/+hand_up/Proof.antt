@@ -1,0 +1,202 @@
+use Rattle.turns.proofs.Turned.{up-none, up-falls, up-in, up-fits, up-still, up-upward, up-more}
+use borrow.Author.Needs.{needs}
+use native.Mathlib.Omega.{arith}
+use Prim.Native.Nat.{ℕ, _<_}
+use borrow.Fn.Kinds.{In}
+use borrow.Fn.PlainCycle.{Measures, is, falls, and}
+use Rattle.turns.proofs.hand_up.Reads as hand-up
+use Rattle.turns.proofs.hand_up.Kinds as hand-up-kinds
+use Rattle.turns.proofs.+hand_up.Lts-hand_up as hand-up-lts
+use Rattle.turns.proofs.with_leaf.Reads as with-leaf-reads
+use Rattle.region.proofs.row_at.Reads as row-at-reads
+use Rattle.writers.proofs.put_row_at.Reads as put-row-at-reads
+use Rattle.turns.proofs.+hand_up.{statement}
+use Rattle.turns.proofs.+hand_up.Tie.{close}
+
+abbrev μ-hand-up : Measures 1 hand-up-kinds.ps ℕ
+μ-hand-up κs a = a .1 .0
+
+abbrev hand-up-at : ℕ → In 1 hand-up-kinds.ps
+hand-up-at t = and 1 hand-up-kinds.ps (is 1 hand-up-kinds.ps μ-hand-up t) hand-up.Pre
+
+abbrev hand-up-below : ℕ → In 1 hand-up-kinds.ps
+hand-up-below t = and 1 hand-up-kinds.ps (falls 1 hand-up-kinds.ps _<_ μ-hand-up t) hand-up.Pre
+
+hand-up-row-at-requires : (t : ℕ) → hand-up-lts.Need-row-at-requires (
+  row-at-reads.Asked,
+  row-at-reads.Learnt,
+  with-leaf-reads.Asked,
+  with-leaf-reads.Learnt,
+  put-row-at-reads.Asked,
+  put-row-at-reads.Learnt,
+  hand-up-below t,
+  hand-up.Post,
+) (hand-up-at t) hand-up.Post
+hand-up-row-at-requires t c κs = search needs
+
+hand-up-enum-known-parent : (t : ℕ) → hand-up-lts.Need-enum-known-parent (
+  row-at-reads.Asked,
+  row-at-reads.Learnt,
+  with-leaf-reads.Asked,
+  with-leaf-reads.Learnt,
+  put-row-at-reads.Asked,
+  put-row-at-reads.Learnt,
+  hand-up-below t,
+  hand-up.Post,
+) (hand-up-at t) hand-up.Post
+hand-up-enum-known-parent t c = search needs
+
+hand-up-enum-told : (t : ℕ) → hand-up-lts.Need-enum-told (
+  row-at-reads.Asked,
+  row-at-reads.Learnt,
+  with-leaf-reads.Asked,
+  with-leaf-reads.Learnt,
+  put-row-at-reads.Asked,
+  put-row-at-reads.Learnt,
+  hand-up-below t,
+  hand-up.Post,
+) (hand-up-at t) hand-up.Post
+hand-up-enum-told t c = search needs
+
+hand-up-same-length : (t : ℕ) → hand-up-lts.Need-same-length (
+  row-at-reads.Asked,
+  row-at-reads.Learnt,
+  with-leaf-reads.Asked,
+  with-leaf-reads.Learnt,
+  put-row-at-reads.Asked,
+  put-row-at-reads.Learnt,
+  hand-up-below t,
+  hand-up.Post,
+) (hand-up-at t) hand-up.Post
+hand-up-same-length t c = search needs
+
+hand-up-returns : (t : ℕ) → hand-up-lts.Need-returns (
+  row-at-reads.Asked,
+  row-at-reads.Learnt,
+  with-leaf-reads.Asked,
+  with-leaf-reads.Learnt,
+  put-row-at-reads.Asked,
+  put-row-at-reads.Learnt,
+  hand-up-below t,
+  hand-up.Post,
+) (hand-up-at t) hand-up.Post
+hand-up-returns t c = search up-none
+
+hand-up-row-at-requires-2 : (t : ℕ) → hand-up-lts.Need-row-at-requires-2 (
+  row-at-reads.Asked,
+  row-at-reads.Learnt,
+  with-leaf-reads.Asked,
+  with-leaf-reads.Learnt,
+  put-row-at-reads.Asked,
+  put-row-at-reads.Learnt,
+  hand-up-below t,
+  hand-up.Post,
+) (hand-up-at t) hand-up.Post
+hand-up-row-at-requires-2 t c κs = (search needs, search up-in)
+
+hand-up-with-leaf-requires : (t : ℕ) → hand-up-lts.Need-with-leaf-requires (
+  row-at-reads.Asked,
+  row-at-reads.Learnt,
+  with-leaf-reads.Asked,
+  with-leaf-reads.Learnt,
+  put-row-at-reads.Asked,
+  put-row-at-reads.Learnt,
+  hand-up-below t,
+  hand-up.Post,
+) (hand-up-at t) hand-up.Post
+hand-up-with-leaf-requires t c κs = search needs
+
+hand-up-put-row-at-requires : (t : ℕ) → hand-up-lts.Need-put-row-at-requires (
+  row-at-reads.Asked,
+  row-at-reads.Learnt,
+  with-leaf-reads.Asked,
+  with-leaf-reads.Learnt,
+  put-row-at-reads.Asked,
+  put-row-at-reads.Learnt,
+  hand-up-below t,
+  hand-up.Post,
+) (hand-up-at t) hand-up.Post
+hand-up-put-row-at-requires t c κs =
+    let leafed = c .before in
+    let row2 = leafed .before in
+    let par = row2 .before .before .before in
+    let row = par .before .before in
+    let s = row .before .before .before in
+    (s .pre .1 .0, (up-in _ (s .pre .1 .0) (s .args .i) (s .pre .1 .1 .0) _ (row .row-at .ensures) (s .pre .1 .1 .1) _ (par .parent .given .1), up-fits _ (s .pre .1 .0) (s .args .i) (s .pre .1 .1 .0) _ (row .row-at .ensures) (s .pre .1 .1 .1) _ (par .parent .given .1) (s .args .leaf) _ _ (row2 .row-at2 .ensures) (leafed .with-leaf .ensures) (s .good .1 .1 .0 .1 .1 .0 .1)))
+
+hand-up-hand-up-requires : (t : ℕ) → hand-up-lts.Need-hand-up-requires (
+  row-at-reads.Asked,
+  row-at-reads.Learnt,
+  with-leaf-reads.Asked,
+  with-leaf-reads.Learnt,
+  put-row-at-reads.Asked,
+  put-row-at-reads.Learnt,
+  hand-up-below t,
+  hand-up.Post,
+) (hand-up-at t) hand-up.Post
+hand-up-hand-up-requires t c κs =
+    let put = c .before .before .before in
+    let leafed = put .before .before in
+    let row2 = leafed .before in
+    let par = row2 .before .before .before in
+    let row = par .before .before in
+    let s = row .before .before .before in
+    let q = up-falls _ (s .pre .1 .0) (s .args .i) (s .pre .1 .1 .0) _ (row .row-at .ensures) (s .pre .1 .1 .1) _ (par .parent .given .1) in
+    (omega arith, (put .put-row-at .ensures .laid, (up-still _ (s .pre .1 .0) (s .args .i) (s .pre .1 .1 .0) _ (row .row-at .ensures) (s .pre .1 .1 .1) _ (par .parent .given .1) (s .args .leaf) _ _ (row2 .row-at2 .ensures) (leafed .with-leaf .ensures) _ (put .put-row-at .ensures), up-upward _ (s .pre .1 .0) (s .args .i) (s .pre .1 .1 .0) _ (row .row-at .ensures) (s .pre .1 .1 .1) _ (par .parent .given .1) (s .args .leaf) _ _ (row2 .row-at2 .ensures) (leafed .with-leaf .ensures) _ (put .put-row-at .ensures))))
+
+hand-up-same-length-2 : (t : ℕ) → hand-up-lts.Need-same-length-2 (
+  row-at-reads.Asked,
+  row-at-reads.Learnt,
+  with-leaf-reads.Asked,
+  with-leaf-reads.Learnt,
+  put-row-at-reads.Asked,
+  put-row-at-reads.Learnt,
+  hand-up-below t,
+  hand-up.Post,
+) (hand-up-at t) hand-up.Post
+hand-up-same-length-2 t c = search needs
+
+hand-up-returns-2 : (t : ℕ) → hand-up-lts.Need-returns-2 (
+  row-at-reads.Asked,
+  row-at-reads.Learnt,
+  with-leaf-reads.Asked,
+  with-leaf-reads.Learnt,
+  put-row-at-reads.Asked,
+  put-row-at-reads.Learnt,
+  hand-up-below t,
+  hand-up.Post,
+) (hand-up-at t) hand-up.Post
+hand-up-returns-2 t c =
+    let up = c .before .before in
+    let put = up .before .before .before .before in
+    let leafed = put .before .before in
+    let row2 = leafed .before in
+    let par = row2 .before .before .before in
+    let row = par .before .before in
+    let s = row .before .before .before in
+    up-more _ (s .pre .1 .0) (s .args .i) (s .pre .1 .1 .0) _ (row .row-at .ensures) (s .pre .1 .1 .1) _ (par .parent .given .1) (s .args .leaf) _ _ (row2 .row-at2 .ensures) (leafed .with-leaf .ensures) _ (put .put-row-at .ensures) _ (up .hand-up .ensures)
+
+pub +hand-up-spec : {M : Type 1} → statement M
++hand-up-spec = close μ-hand-up λ t. hand-up-lts.spec (
+  row-at-reads.Asked,
+  row-at-reads.Learnt,
+  with-leaf-reads.Asked,
+  with-leaf-reads.Learnt,
+  put-row-at-reads.Asked,
+  put-row-at-reads.Learnt,
+  hand-up-below t,
+  hand-up.Post,
+)
+    (hand-up-at t)
+    hand-up.Post
+    (hand-up-row-at-requires t)
+    (hand-up-enum-known-parent t)
+    (hand-up-enum-told t)
+    (hand-up-same-length t)
+    (hand-up-returns t)
+    (hand-up-row-at-requires-2 t)
+    (hand-up-with-leaf-requires t)
+    (hand-up-put-row-at-requires t)
+    (hand-up-hand-up-requires t)
+    (hand-up-same-length-2 t)
+    (hand-up-returns-2 t)
