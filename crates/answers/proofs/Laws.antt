@@ -12,8 +12,10 @@ use Rattle.word.proofs.Be.{length-be}
 use Rattle.transaction.specs.declared.ParentIndex.{ParentIndex}
 use Rattle.transaction.specs.declared.ParentIndex.the-variants.{NoParent, Parent}
 use Rattle.transaction.specs.declared.Edit.{Edit}
+use Rattle.model.specs.declared.Refusal.{Refusal}
 use Rattle.model.specs.Basic.{collect}
-use Rattle.model.specs.Numbers.{Answer, answer, parentPlaces, rowPlaces}
+use Rattle.model.specs.Numbers.{Answer, answer, parentPlaces, rowPlaces, refusalAnswer}
+use Rattle.answers.specs.declared.Verdict.{Verdict}
 use Rattle.slots.specs.Row.{rowNumbers, parentFlag, parentPlace}
 use Rattle.answers.specs.Answers.{recordOf, padded, answerBy}
 
@@ -69,3 +71,8 @@ module _ (s ps : List ℕ) (i : ℕ) (l : length s ≡ 128) (m : length ps ≡ 1
   pub end : 16 ≤ i → s ≡ recordOf ps
   unfolding recordOf
   end h = sym (take-all (i * 8) s (omega arith)) ∙ e ∙ ap (collect (be 8)) (take-all i ps (omega arith))
+
+-- ---- a refusal by its case
+
+pub told : (x y : Refusal) (v : Verdict) → x ≡ y → answerBy v ≡ refusalAnswer y → answerBy v ≡ refusalAnswer x
+told x y v e a = a ∙ ap refusalAnswer (sym e)

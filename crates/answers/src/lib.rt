@@ -1,9 +1,13 @@
 // What a call answers, and the record that is filled with it.
 ghost use mathlib.Core.Path.{_≡_};
-ghost use mathlib.Core.List.{[], _∷_};
+ghost use mathlib.Core.List.{[], _∷_, _++_};
 ghost use lib.ListN.{length};
-ghost use Rattle.model.specs.Numbers.{answer, rowPlaces};
+ghost use Rattle.model.specs.Numbers.{answer, rowPlaces, targetPlaces, refusalAnswer};
 ghost use Rattle.answers.specs.Answers.{recordOf, padded, answerBy};
+use model::Refusal;
+use target::NameNumber;
+use target::OptionTarget;
+use target::Target;
 use transaction::Edit;
 
 // The answer record, 16 places of 8 bytes, and the numbers that calls return.
@@ -23,6 +27,28 @@ impl Answer {
     pub const MALFORMED: u32 = 2;
 
     pub const NOT_REGISTERED: u32 = 3;
+
+    pub const REFERENCE_CYCLE: u32 = 4;
+
+    pub const TOO_MANY_ROWS: u32 = 5;
+
+    pub const MULTIPLE_EDITS: u32 = 6;
+
+    pub const PACKED_TRANSACTION_ACQUIRE: u32 = 7;
+
+    pub const LOCK_ACQUIRE: u32 = 8;
+
+    pub const DELETE_REFERENCE_MUST_EXIST: u32 = 9;
+
+    pub const MUST_NOT_EXIST: u32 = 10;
+
+    pub const MUST_EXIST: u32 = 11;
+
+    pub const REFERENCE_OUT_OF_DATE: u32 = 12;
+
+    pub const DELETE_MUST_NOT_EXIST: u32 = 13;
+
+    pub const LOG_FULL: u32 = 14;
 
     pub const WRONG_STATE: u32 = 15;
 
@@ -92,6 +118,47 @@ impl Verdict {
         }
     }
 
+    // A refusal's number, and what goes with it.
+    pub fn refusal(refusal: Refusal) -> Verdict
+        ensures { λ r. ⌜ answerBy r ≡ refusalAnswer refusal ⌝ }
+    {
+        match refusal {
+            Refusal::BadRegion => Verdict::bare(Answer::BAD_REGION),
+            Refusal::Malformed => Verdict::bare(Answer::MALFORMED),
+            Refusal::NotRegistered(number) => Verdict::one(Answer::NOT_REGISTERED, number),
+            Refusal::ReferenceCycle => Verdict::bare(Answer::REFERENCE_CYCLE),
+            Refusal::TooManyRows => Verdict::bare(Answer::TOO_MANY_ROWS),
+            Refusal::MultipleEdits(name) => named(Answer::MULTIPLE_EDITS, name),
+            Refusal::PackedTransactionAcquire => Verdict::bare(Answer::PACKED_TRANSACTION_ACQUIRE),
+            Refusal::LockAcquire(name) => named(Answer::LOCK_ACQUIRE, name),
+            Refusal::DeleteReferenceMustExist(name) => named(
+                Answer::DELETE_REFERENCE_MUST_EXIST,
+                name,
+            ),
+            Refusal::MustNotExist(name, actual, new) => named_two(
+                Answer::MUST_NOT_EXIST,
+                name,
+                actual,
+                new,
+            ),
+            Refusal::MustExist(name, expected) => named_one(Answer::MUST_EXIST, name, expected),
+            Refusal::ReferenceOutOfDate(name, expected, actual) => named_two(
+                Answer::REFERENCE_OUT_OF_DATE,
+                name,
+                expected,
+                actual,
+            ),
+            Refusal::DeleteMustNotExist(name) => named(Answer::DELETE_MUST_NOT_EXIST, name),
+            Refusal::LogFull => Verdict::bare(Answer::LOG_FULL),
+            Refusal::WrongState => Verdict::bare(Answer::WRONG_STATE),
+            Refusal::BadName => Verdict::bare(Answer::BAD_NAME),
+            Refusal::NamesFull => Verdict::bare(Answer::NAMES_FULL),
+            Refusal::WrongLock => Verdict::bare(Answer::WRONG_LOCK),
+            Refusal::BadLoad => Verdict::bare(Answer::BAD_LOAD),
+            Refusal::NothingThere => Verdict::bare(Answer::NOTHING_THERE),
+        }
+    }
+
     // What reading a row answers.
     pub fn row(row: Edit) -> Verdict
         ensures { λ r. ⌜ answerBy r ≡ answer 0 (rowPlaces row) ⌝ }
@@ -100,6 +167,44 @@ impl Verdict {
             number: Answer::DONE,
             places: row_places(row),
         }
+    }
+}
+
+// A name, and targets behind it: each is two places, kind and number.
+fn named(number: u32, name: NameNumber) -> Verdict
+    ensures { λ r. ⌜ answerBy r ≡ answer number (name .0 ∷ []) ⌝ }
+{
+    Verdict::one(number, name.0 as u64)
+}
+
+fn named_one(number: u32, name: NameNumber, t: Target) -> Verdict
+    ensures { λ r. ⌜ answerBy r ≡ answer number (name .0 ∷ targetPlaces t) ⌝ }
+{
+    let there = OptionTarget::Present(t);
+    let mut places = [0u64; 16];
+    places[0] = name.0 as u64;
+    places[1] = there.byte();
+    places[2] = there.number();
+    Verdict {
+        number: number,
+        places: places,
+    }
+}
+
+fn named_two(number: u32, name: NameNumber, t: Target, u: Target) -> Verdict
+    ensures { λ r. ⌜ answerBy r ≡ answer number (name .0 ∷ targetPlaces t ++ targetPlaces u) ⌝ }
+{
+    let first = OptionTarget::Present(t);
+    let second = OptionTarget::Present(u);
+    let mut places = [0u64; 16];
+    places[0] = name.0 as u64;
+    places[1] = first.byte();
+    places[2] = first.number();
+    places[3] = second.byte();
+    places[4] = second.number();
+    Verdict {
+        number: number,
+        places: places,
     }
 }
 

@@ -9,7 +9,7 @@ use lib.ListN.{length, getD, take, drop}
 use lib.Seq.{getD-take, getD-drop}
 use lib.Dec.{lit<, eqb, leb}
 use lib.Pow.{areBytes}
-use mir.Syntax.{w8}
+use mir.Syntax.{w8, w64}
 use mir.Val.{Fits}
 use borrow.Author.Tests.{leb-true, eqb-true, eq-eqb, ne-eqb, le-leb, lt-leb, not-true, not-false}
 use Rattle.word.specs.Be.{cut, val}
@@ -158,8 +158,23 @@ counted l n h e = let f = formed l h in (e ∙ sym (f .count), omega arith)
 
 -- the i-th record
 module _ (l : List ℕ) (i : ℕ) (h : isSome (editsOf l) ≡ true) (g : i < length (editsIn l)) where
-  pub record-room : (4 + i * 27 + 27 ≤ length l) × (i < 32)
-  record-room = let f = formed l h in (omega arith, omega arith)
+  pub times-fits : Fits w64 (i * 27)
+  times-fits = let f = formed l h in record { fits = omega arith }
+
+  pub place-fits : Fits w64 (4 + i * 27)
+  place-fits = let f = formed l h in record { fits = omega arith }
+
+  pub flag-fits : Fits w64 (4 + i * 27 + 1)
+  flag-fits = let f = formed l h in record { fits = omega arith }
+
+  pub flag-room : 4 + i * 27 + 1 < length l
+  flag-room = let f = formed l h in omega arith
+
+  pub end-fits : Fits w64 (4 + i * 27 + 27)
+  end-fits = let f = formed l h in record { fits = omega arith }
+
+  pub record-room : 4 + i * 27 + 27 ≤ length l
+  record-room = let f = formed l h in omega arith
 
   pub record-is : editOf (cut (4 + i * 27) 27 l) ≡ some (getD (editsIn l) i noEdit)
   record-is = let f = formed l h in record-in (byteAt 3 l) 4 l (editsIn l) i (f .read) (omega arith)

@@ -109,27 +109,20 @@ applyAll-leaves : {A : Type 0} (f : Store → A) → ((w : Write) (s : Store) �
 applyAll-leaves f h [] s = refl
 applyAll-leaves f h (w ∷ ws) s = applyAll-leaves f h ws (apply w s) ∙ h w s
 
-apply-packed-lock : (w : Write) (s : Store) → apply w s .packedLock ≡ s .packedLock
+-- every write leaves the setting and the packed table's lock
+apply-leaves : (w : Write) (s : Store) → (apply w s .setting ≡ s .setting) × (apply w s .packedLock ≡ s .packedLock)
 unfolding apply
-apply-packed-lock (appendLine l) s = refl
-apply-packed-lock (writeLoose n t) s = refl
-apply-packed-lock (removeLog n) s = refl
-apply-packed-lock (writePacked ps) s = refl
-apply-packed-lock (removeLoose n) s = refl
-
-apply-setting : (w : Write) (s : Store) → apply w s .setting ≡ s .setting
-unfolding apply
-apply-setting (appendLine l) s = refl
-apply-setting (writeLoose n t) s = refl
-apply-setting (removeLog n) s = refl
-apply-setting (writePacked ps) s = refl
-apply-setting (removeLoose n) s = refl
+apply-leaves (appendLine l) s = (refl, refl)
+apply-leaves (writeLoose n t) s = (refl, refl)
+apply-leaves (removeLog n) s = (refl, refl)
+apply-leaves (writePacked ps) s = (refl, refl)
+apply-leaves (removeLoose n) s = (refl, refl)
 
 pub applyAll-lock : (ws : List Write) (s : Store) (n : ℕ) → entryAt (applyAll ws s) n .lock ≡ entryAt s n .lock
 applyAll-lock ws s n = applyAll-leaves (λ (t : Store). entryAt t n .lock) (λ w t. apply-lock w t n) ws s
 
 pub applyAll-packed-lock : (ws : List Write) (s : Store) → applyAll ws s .packedLock ≡ s .packedLock
-applyAll-packed-lock = applyAll-leaves (λ (t : Store). t .packedLock) apply-packed-lock
+applyAll-packed-lock = applyAll-leaves (λ (t : Store). t .packedLock) (λ w t. apply-leaves w t .1)
 
 pub applyAll-setting : (ws : List Write) (s : Store) → applyAll ws s .setting ≡ s .setting
-applyAll-setting = applyAll-leaves (λ (t : Store). t .setting) apply-setting
+applyAll-setting = applyAll-leaves (λ (t : Store). t .setting) (λ w t. apply-leaves w t .0)

@@ -7,6 +7,7 @@ use Prim.Native.Nat.{ℕ}
 use lib.ListN.{getD}
 use borrow.Author.Tests.{leb-true, le-leb}
 pub use Rattle.word.proofs.Tests.{both-true, true-both, every-at, below-true, true-below}
+use Rattle.model.specs.Basic.{every}
 use Rattle.model.specs.Store.{Store}
 use Rattle.model.specs.Fine.{Fine, nameRules, lineRules, rowRules, lockRules, roomRules, fineNames, fineLines, fineRows, fineLocks, fineRoom, fine}
 
@@ -34,36 +35,19 @@ fine-true s e =
       room = leb-true _ _ (room 0);
     }
 
-module _ (s : Store) (f : Fine s) where
-  names-hold : fineNames s ≡ true
-  unfolding fineNames
-  names-hold =
-      true-both (le-leb _ _ (f .few))
-      (true-both (true-below _ _ (f .entries))
-      (true-both (true-below _ _ (λ n h. true-below _ _ (f .apart n h))) refl))
+-- the bound of a group, then one test of each, then one of each two
+three : (a b c : Bool) → a ≡ true → b ≡ true → c ≡ true → every (a ∷ b ∷ c ∷ []) ≡ true
+three a b c p q r = true-both p (true-both q (true-both r refl))
 
-  lines-hold : fineLines s ≡ true
-  unfolding fineLines
-  lines-hold = true-both (le-leb _ _ (f .short)) (true-both (true-below _ _ (f .lines)) refl)
-
-  rows-hold : fineRows s ≡ true
-  unfolding fineRows
-  rows-hold =
-      true-both (le-leb _ _ (f .bounded))
-      (true-both (true-below _ _ (f .rows))
-      (true-both (true-below _ _ (λ i h. true-below _ _ (f .distinct i h))) refl))
-
-  locks-hold : fineLocks s ≡ true
-  unfolding fineLocks
-  locks-hold = true-both (true-below _ _ (f .locks)) (true-both (f .packedLock) refl)
-
-  room-holds : fineRoom s ≡ true
-  unfolding fineRoom
-  room-holds = true-both (le-leb _ _ (f .room)) refl
-
-  pub true-fine : fine s ≡ true
-  unfolding fine
-  true-fine = true-both names-hold (true-both lines-hold (true-both rows-hold (true-both locks-hold (true-both room-holds refl))))
+-- the tests of each group, from the rules
+pub true-fine : (s : Store) → Fine s → fine s ≡ true
+unfolding fine fineNames fineLines fineRows fineLocks fineRoom
+true-fine s f =
+    true-both (three _ _ _ (le-leb _ _ (f .few)) (true-below _ _ (f .entries)) (true-below _ _ (λ n h. true-below _ _ (f .apart n h))))
+    (true-both (true-both (le-leb _ _ (f .short)) (true-both (true-below _ _ (f .lines)) refl))
+    (true-both (three _ _ _ (le-leb _ _ (f .bounded)) (true-below _ _ (f .rows)) (true-below _ _ (λ i h. true-below _ _ (f .distinct i h))))
+    (true-both (true-both (true-below _ _ (f .locks)) (true-both (f .packedLock) refl))
+    (true-both (true-both (le-leb _ _ (f .room)) refl) refl))))
 
 pub fine-iff : (s : Store) → (fine s ≡ true) ↔ Fine s
 fine-iff s = (fine-true s, true-fine s)

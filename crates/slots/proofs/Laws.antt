@@ -5,14 +5,15 @@ use mathlib.Core.List.{List, [], _∷_, _++_, append-nil}
 use mathlib.Core.Option.{Option, none, some}
 use Prim.Native.Nat.{ℕ, zero, suc, _+_, _-_, _<_, _≤_, _^_}
 use native.Mathlib.Omega.{arith}
-use lib.ListN.{length}
-use lib.Seq.{take-all}
+use lib.ListN.{length, getD, drop}
+use lib.Seq.{take-all, drop-cons}
+use native.Mathlib.Numerals.{add-one}
 use lib.Dec.{eqb}
 use borrow.Author.Tests.{lt-ltb, le-leb, lt-leb, eq-eqb, ne-eqb, not-true, not-false}
 use mir.Val.{Fits}
 use mir.Syntax.{w64}
 use Rattle.word.specs.Be.{cut, val, be}
-use Rattle.word.specs.Cut.{put}
+use Rattle.word.specs.Cut.{put, total}
 use Rattle.word.specs.Fields.{fields, unfields, puts}
 use Rattle.word.specs.Fields.Same.{none as noFields, one}
 use Rattle.word.proofs.Fields.{puts-fields}
@@ -58,7 +59,7 @@ use Rattle.slots.specs.declared.OptionParent.the-variants.{NoPlace, Plac
 use Rattle.slots.specs.declared.OptionChange.{OptionChange}
 use Rattle.slots.specs.declared.OptionChange.the-variants.{NoChange}
 use Rattle.slots.specs.declared.OptionChange.the-variants as optionChange
-use Rattle.slots.specs.Row.{rowNumbers, rowForm, rowWidths, headWidths, tailWidths, headOf, tailOf, parentFlag, parentPlace, slotTarget, targetOption, slotExpected, parentFrom, slotParent, parentOption, slotChange, changeOption, rowFrom, rowIn}
+use Rattle.slots.specs.Row.{rowNumbers, rowForm, rowWidths, parentFlag, parentPlace, slotTarget, targetOption, slotExpected, parentFrom, slotParent, parentOption, slotChange, changeOption, rowFrom, rowIn}
 
 -- ---- numbers read
 
@@ -194,15 +195,63 @@ pub row-is : (r : Edit) (log : LogChange) (x : PreviousValue) (was new : OptionT
 row-is r log x was new k l f e a b c d h j elog ex ewas enew ek el ef ee ea eb ec ed eh ej =
     simp (ek, el, ef, ee, ea, eb, ec, ed, eh, ej, elog, ex, ewas, enew)
 
--- a row's numbers: the head's, and then the tail's
-pub put-row-is : (l p h t : List ℕ) (v : Edit) → length l ≡ 36 → p ≡ rowNumbers v → h ≡ puts 0 headWidths (headOf p) l
-    → t ≡ puts 8 tailWidths (tailOf p) h → t ≡ rowForm v
+-- ---- a row written, number by number: those from place i on are left to be put from byte `at` on
+
+pub record Far (l₀ p : List ℕ) (i at : ℕ) (l : List ℕ) : Type 0 where
+  pub long : length l ≡ 36
+  pub numbers : length p ≡ 13
+  pub upto : i ≤ 13
+  pub room : at + total (drop i rowWidths) ≡ 36
+  pub left : puts at (drop i rowWidths) (drop i p) l ≡ puts 0 rowWidths p l₀
+
+pub far-start : (l p : List ℕ) → length l ≡ 36 → length p ≡ 13 → Far l p 0 0 l
+far-start l p e f = record { long = e; numbers = f; upto = omega arith; room = refl; left = refl }
+
+module _ (l₀ p : List ℕ) (i at : ℕ) (l : List ℕ) (f : Far l₀ p i at l) (h : i < 13) where
+  wide : drop i rowWidths ≡ getD rowWidths i 0 ∷ drop (i + 1) rowWidths
+  wide = drop-cons rowWidths i 0 h ∙ ap (λ (k : ℕ). getD rowWidths i 0 ∷ drop k rowWidths) (sym (add-one i))
+
+  next : drop i p ≡ getD p i 0 ∷ drop (i + 1) p
+  next =
+      let n : length p ≡ 13 = f .numbers in
+      let b : i < length p = omega arith in
+      drop-cons p i 0 b ∙ ap (λ (k : ℕ). getD p i 0 ∷ drop k p) (sym (add-one i))
+
+  pub far-room : (w : ℕ) → w ≡ getD rowWidths i 0 → at + w ≤ length l
+  far-room w e =
+      let n : length l ≡ 36 = f .long in
+      let r : at + (getD rowWidths i 0 + total (drop (i + 1) rowWidths)) ≡ 36 = ap (λ (ws : List ℕ). at + total ws) (sym wide) ∙ f .room in
+      omega arith
+
+  pub far-more : (w : ℕ) (l′ : List ℕ) → w ≡ getD rowWidths i 0 → l′ ≡ put at w l (be w (getD p i 0)) → length l′ ≡ length l → Far l₀ p (i + 1) (at + w) l′
+  far-more w l′ e el en =
+      let r : at + (getD rowWidths i 0 + total (drop (i + 1) rowWidths)) ≡ 36 = ap (λ (ws : List ℕ). at + total ws) (sym wide) ∙ f .room in
+      record {
+        long = en ∙ f .long;
+        numbers = f .numbers;
+        upto = omega arith;
+        room = rw e (omega arith);
+        left =
+            ap₂ (λ (w : ℕ) (l : List ℕ). puts (at + w) (drop (i + 1) rowWidths) (drop (i + 1) p) l) e (el ∙ ap (λ (w : ℕ). put at w l (be w (getD p i 0))) e)
+            ∙ ap₂ (λ (ws xs : List ℕ). puts at ws xs l) (sym wide) (sym next)
+            ∙ f .left;
+      }
+
+-- a width fits a number
+width-small : (i w at : ℕ) (l₀ p l : List ℕ) → Far l₀ p i at l → i < 13 → w ≡ getD rowWidths i 0 → at + w ≤ 36
+width-small i w at l₀ p l f h e = let n : length l ≡ 36 = f .long in let r : at + w ≤ length l = far-room l₀ p i at l f h w e in omega arith
+
+pub width-fits : (i w at : ℕ) (l₀ p l : List ℕ) → Far l₀ p i at l → i < 13 → w ≡ getD rowWidths i 0 → Fits w64 (at + w)
+width-fits i w at l₀ p l f h e = let s : at + w ≤ 36 = width-small i w at l₀ p l f h e in record { fits = omega arith }
+
+pub far-end : (l₀ p : List ℕ) (i at : ℕ) (l : List ℕ) (v : Edit) → Far l₀ p i at l → 13 ≤ i → length l₀ ≡ 36 → p ≡ rowNumbers v → l ≡ rowForm v
 unfolding rowForm
-put-row-is l p h t v e ep eh et =
-    et
-    ∙ ap (puts 8 tailWidths (tailOf p)) eh
-    ∙ ap (λ (p : List ℕ). puts 8 tailWidths (tailOf p) (puts 0 headWidths (headOf p) l)) ep
-    ∙ puts-fields rowWidths (rowNumbers v) l (one (one (one (one (one (one (one (one (one (one (one (one (one noFields))))))))))))) e
+far-end l₀ p i at l v f h e ep =
+    let k : i ≡ 13 = omega arith in
+    let q : puts at (drop 13 rowWidths) (drop 13 p) l ≡ puts 0 rowWidths p l₀ = rw k at (f .left) in
+    q
+    ∙ ap (λ (p : List ℕ). puts 0 rowWidths p l₀) ep
+    ∙ puts-fields rowWidths (rowNumbers v) l₀ (one (one (one (one (one (one (one (one (one (one (one (one (one noFields))))))))))))) e
 
 -- ---- a packed value of its number
 

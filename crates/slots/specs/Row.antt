@@ -1,7 +1,7 @@
 -- The form of a row in a slot of 36 bytes: its own list of numbers, each at its place.
 use mathlib.Core.Path.{_≡_}
 use mathlib.Core.Bool.{false, cond}
-use mathlib.Core.List.{List, [], _∷_, _++_}
+use mathlib.Core.List.{List, [], _∷_}
 use mathlib.Core.Option.{Option, none, some}
 use Prim.Native.Nat.{ℕ, zero, suc, _+_, _^_, _<_}
 use lib.ListN.{getD}
@@ -33,21 +33,8 @@ use Rattle.model.specs.Numbers.{flag}
 use Rattle.slots.specs.Values.{targetFrom, FitsTarget}
 
 -- name, kind, log, force, message, expected, expected target, new target, has a parent, parent's place, leaf-previous
-abbrev pub headWidths : List ℕ
-headWidths = 2 ∷ 1 ∷ 1 ∷ 1 ∷ 2 ∷ 1 ∷ []
-
-abbrev pub tailWidths : List ℕ
-tailWidths = 1 ∷ 8 ∷ 1 ∷ 8 ∷ 1 ∷ 1 ∷ 8 ∷ []
-
--- the numbers that go with each
-abbrev pub headOf : List ℕ → List ℕ
-headOf p = getD p 0 0 ∷ getD p 1 0 ∷ getD p 2 0 ∷ getD p 3 0 ∷ getD p 4 0 ∷ getD p 5 0 ∷ []
-
-abbrev pub tailOf : List ℕ → List ℕ
-tailOf p = getD p 6 0 ∷ getD p 7 0 ∷ getD p 8 0 ∷ getD p 9 0 ∷ getD p 10 0 ∷ getD p 11 0 ∷ getD p 12 0 ∷ []
-
 abbrev pub rowWidths : List ℕ
-rowWidths = headWidths ++ tailWidths
+rowWidths = 2 ∷ 1 ∷ 1 ∷ 1 ∷ 2 ∷ 1 ∷ 1 ∷ 8 ∷ 1 ∷ 8 ∷ 1 ∷ 1 ∷ 8 ∷ []
 
 -- whether there is a parent, and its place
 abbrev pub parentFlag : ParentIndex → ℕ

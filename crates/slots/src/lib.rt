@@ -1,17 +1,17 @@
 // The forms of a store's values in slots of bytes: a loose value, a packed value, a lock, a log line and a row, each read and
 // written at the region's edge. Reading a slot finds a value, or none where the bytes are no form of one.
 ghost use mathlib.Core.Path.{_≡_};
-ghost use Prim.Native.Nat.{_+_, _≤_};
-ghost use lib.ListN.{length};
+ghost use Prim.Native.Nat.{_+_, _≤_, _<_};
+ghost use lib.ListN.{length, getD};
 ghost use Rattle.word.specs.Be.{val};
-ghost use Rattle.word.specs.Fields.{unfields, puts};
+ghost use Rattle.word.specs.Fields.{unfields};
 ghost use Rattle.slots.specs.Values.{looseForm, looseKind, looseNumber, targetFrom, unbroken, looseFrom, looseIn, looseOption};
 ghost use Rattle.slots.specs.Values.{packedForm, packedFrom, lockForm, lockFrom, lockIn, lockOption, lineFrom, lineForm, lineWidths};
 ghost use Rattle.model.specs.Store.{lockByte};
 ghost use Rattle.model.specs.EditList.{changeOf};
 ghost use Rattle.model.specs.Numbers.{flag};
 ghost use Rattle.transaction.specs.Fields.{previousOption};
-ghost use Rattle.slots.specs.Row.{rowIn, rowOption, rowForm, rowNumbers, headWidths, tailWidths, headOf, tailOf, parentFlag, parentPlace, slotTarget, targetOption, slotExpected, parentFrom, slotParent, parentOption, slotChange, changeOption};
+ghost use Rattle.slots.specs.Row.{rowIn, rowOption, rowForm, rowNumbers, rowWidths, parentFlag, parentPlace, slotTarget, targetOption, slotExpected, parentFrom, slotParent, parentOption, slotChange, changeOption};
 use model::Line;
 use model::Lock;
 use model::Loose;
@@ -460,30 +460,13 @@ pub fn row_numbers(row: Edit) -> [u64; 13]
     ]
 }
 
-// Name, kind, log, force, message and expected; then both targets, the parent and the leaf-previous.
-fn put_head(slot: &mut [u8], p: [u64; 13])
-    requires { ⌜ length (now slot) ≡ 36 ⌝ }
-    ensures { λ _. ⌜ now (slot .exit) ≡ puts 0 headWidths (headOf p) (now (slot .entry)) ⌝ }
+// How wide the number at a place is in a row's slot.
+fn row_width(i: usize) -> usize
+    requires { ⌜ i < 13 ⌝ }
+    ensures { λ r. ⌜ r ≡ getD rowWidths i 0 ⌝ }
 {
-    word::put_at(slot, 0, 2, p[0]);
-    word::put_at(slot, 2, 1, p[1]);
-    word::put_at(slot, 3, 1, p[2]);
-    word::put_at(slot, 4, 1, p[3]);
-    word::put_at(slot, 5, 2, p[4]);
-    word::put_at(slot, 7, 1, p[5]);
-}
-
-fn put_tail(slot: &mut [u8], p: [u64; 13])
-    requires { ⌜ length (now slot) ≡ 36 ⌝ }
-    ensures { λ _. ⌜ now (slot .exit) ≡ puts 8 tailWidths (tailOf p) (now (slot .entry)) ⌝ }
-{
-    word::put_at(slot, 8, 1, p[6]);
-    word::put_at(slot, 9, 8, p[7]);
-    word::put_at(slot, 17, 1, p[8]);
-    word::put_at(slot, 18, 8, p[9]);
-    word::put_at(slot, 26, 1, p[10]);
-    word::put_at(slot, 27, 1, p[11]);
-    word::put_at(slot, 28, 8, p[12]);
+    let widths: [usize; 13] = [2, 1, 1, 1, 2, 1, 1, 8, 1, 8, 1, 1, 8];
+    widths[i]
 }
 
 pub fn put_row(slot: &mut [u8], row: Edit)
@@ -491,6 +474,12 @@ pub fn put_row(slot: &mut [u8], row: Edit)
     ensures { λ _. ⌜ now (slot .exit) ≡ rowForm row ⌝ }
 {
     let p = row_numbers(row);
-    put_head(slot, p);
-    put_tail(slot, p);
+    let mut at: usize = 0;
+    let mut i: usize = 0;
+    while i < 13 {
+        let width = row_width(i);
+        word::put_at(slot, at, width, p[i]);
+        at += width;
+        i += 1;
+    }
 }

@@ -17,7 +17,7 @@ use Rattle.transaction.specs.declared.ParentIndex.the-variants.{NoParent, Paren
 use Rattle.transaction.specs.declared.Edit.{Edit}
 use Rattle.transaction.specs.Change.{previousOid}
 use Rattle.model.specs.Store.{Store, noRow}
-use Rattle.model.specs.Rows.{nameIn, changeIn, rowAt, ancestors}
+use Rattle.model.specs.Rows.{changeIn, rowAt, ancestors}
 use Rattle.model.specs.Fine.{fineParent, Upward}
 use Rattle.model.specs.Prepare.{existing, observing, observed, withLeaf, handedTo, handedOn, turned}
 use Rattle.model.proofs.Alike.{unexpecting, plain, Alike, alike-length, alike-at, alike-ancestors}
@@ -62,44 +62,41 @@ turned-alike s opened rows i =
 
 -- ---- handing up, one parent at a time
 
+pub leaf-upward : (rows : List Edit) (p : ℕ) (o : ObjectNumber) → Upward (length rows) rows
+    → Upward (length (set rows p (withLeaf o (rowAt rows p)))) (set rows p (withLeaf o (rowAt rows p)))
+leaf-upward rows p o w = upward-alike rows (set rows p (withLeaf o (rowAt rows p))) (leaf-alike rows p o) w
+
 module _ (rows : List Edit) (i : ℕ) (o : ObjectNumber) where
   pub hand-none : parentAt rows i ≡ NoParent → rows ≡ handedTo (ancestors rows i) o rows
   hand-none e = ap (λ (ps : List ℕ). handedTo ps o rows) (sym (ancestors-none rows i e))
 
-  module _ (w : Upward (length rows) rows) (h : i < length rows) (p : ℕ) (e : parentAt rows i ≡ Parent p) where
-    abbrev next : List Edit
-    next = set rows p (withLeaf o (rowAt rows p))
-
-    pub leaf-upward : Upward (length next) next
-    leaf-upward = upward-alike rows next (leaf-alike rows p o) w
-
-    pub hand-up : handedTo (ancestors next p) o next ≡ handedTo (ancestors rows i) o rows
-    hand-up =
-        ap (λ (ps : List ℕ). handedTo ps o next) (alike-ancestors next rows (leaf-alike rows p o) p)
-        ∙ ap (λ (ps : List ℕ). handedTo ps o rows) (sym (ancestors-up rows i (length rows) w h p e))
+  pub hand-up : Upward (length rows) rows → i < length rows → (p : ℕ) → parentAt rows i ≡ Parent p
+      → handedTo (ancestors (set rows p (withLeaf o (rowAt rows p))) p) o (set rows p (withLeaf o (rowAt rows p))) ≡ handedTo (ancestors rows i) o rows
+  hand-up w h p e =
+      let next : List Edit = set rows p (withLeaf o (rowAt rows p)) in
+      ap (λ (ps : List ℕ). handedTo ps o next) (alike-ancestors next rows (leaf-alike rows p o) p)
+      ∙ ap (λ (ps : List ℕ). handedTo ps o rows) (sym (ancestors-up rows i (length rows) w h p e))
 
 -- ---- the turn's writing part, from the row kept on
 
-module _ (s : Store) (opened : Bool) (rows : List Edit) (i : ℕ) (x : OptionTarget) (kept : Edit)
-    (ex : x ≡ existing s opened (rowAt rows i)) (ek : kept ≡ observed (rowAt rows i) x) where
+module _ (s : Store) (opened : Bool) (rows : List Edit) (i : ℕ) (kept : Edit) (e : kept ≡ observed (rowAt rows i) (existing s opened (rowAt rows i))) where
   kept-alike : Alike (set rows i kept) rows
-  kept-alike = ap (λ (r : Edit). map plain (set rows i r)) ek ∙ observed-alike rows i x
+  kept-alike = ap (λ (r : Edit). map plain (set rows i r)) e ∙ observed-alike rows i (existing s opened (rowAt rows i))
 
   pub kept-upward : Upward (length rows) rows → Upward (length (set rows i kept)) (set rows i kept)
   kept-upward w = upward-alike rows (set rows i kept) kept-alike w
 
   -- what is handed on of the row kept is what the turn hands on
-  kept-handed : handedOn (previousOid (changeIn kept)) (ancestors rows i) (set rows i kept) ≡ turned s opened rows i
+  kept-handed : (y : OptionObject) → previousOid (changeIn kept) ≡ y → handedOn y (ancestors rows i) (set rows i kept) ≡ turned s opened rows i
   unfolding turned
-  kept-handed =
-      ap (λ (r : Edit). handedOn (previousOid (changeIn r)) (ancestors rows i) (set rows i r)) (ek ∙ ap (observed (rowAt rows i)) ex)
+  kept-handed y ey =
+      ap (λ (y : OptionObject). handedOn y (ancestors rows i) (set rows i kept)) (sym ey)
+      ∙ ap (λ (r : Edit). handedOn (previousOid (changeIn r)) (ancestors rows i) (set rows i r)) e
 
   pub turned-none : previousOid (changeIn kept) ≡ NoId → set rows i kept ≡ turned s opened rows i
-  turned-none e = ap (λ (y : OptionObject). handedOn y (ancestors rows i) (set rows i kept)) (sym e) ∙ kept-handed
+  turned-none ey = kept-handed NoId ey
 
   pub turned-handed : (o : ObjectNumber) → previousOid (changeIn kept) ≡ Id o
       → handedTo (ancestors (set rows i kept) i) o (set rows i kept) ≡ turned s opened rows i
-  turned-handed o e =
-      ap (λ (ps : List ℕ). handedTo ps o (set rows i kept)) (alike-ancestors (set rows i kept) rows kept-alike i)
-      ∙ ap (λ (y : OptionObject). handedOn y (ancestors rows i) (set rows i kept)) (sym e)
-      ∙ kept-handed
+  turned-handed o ey =
+      ap (λ (ps : List ℕ). handedTo ps o (set rows i kept)) (alike-ancestors (set rows i kept) rows kept-alike i) ∙ kept-handed (Id o) ey

@@ -51,7 +51,7 @@ module _ (s : Store) (opened : Bool) where
       pass-then (firstRefusal (turnTests s opened rows i)) _ next e λ _ _ h.
       ap (map plain) (sym (pass-is h)) ∙ turned-alike s opened rows i
 
-  turns-alike : (k i : ℕ) (rows last : List Edit) → turnsFrom s opened k i rows ≡ pass last → Alike last rows
+  pub turns-alike : (k i : ℕ) (rows last : List Edit) → turnsFrom s opened k i rows ≡ pass last → Alike last rows
   unfolding turnsFrom
   turns-alike zero i rows last e = ap (map plain) (sym (pass-is e))
   turns-alike (suc k) i rows last e =

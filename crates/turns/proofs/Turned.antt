@@ -77,57 +77,66 @@ fits-at r l i x h e = subst FitsRow (sym e) (laid-image r l .1 .row i h)
 
 -- ---- handing up
 
--- x is the row at place i
-module _ (r : List ℕ) (l : Laid r) (i : ℕ) (h : i < length (rowsIn (view r .prepared))) (x : Edit) (ex : x ≡ rowAt (rowsIn (view r .prepared)) i) where
-  parent-here : (p : ParentIndex) → x .«parent_index» ≡ p → parentAt (rowsIn (view r .prepared)) i ≡ p
-  parent-here p e = ap (λ (r : Edit). r .«parent_index») (sym ex) ∙ e
+parent-here : (rows : List Edit) (i : ℕ) (x : Edit) (p : ParentIndex) → x ≡ rowAt rows i → x .«parent_index» ≡ p → parentAt rows i ≡ p
+parent-here rows i x p e h = ap (λ (r : Edit). r .«parent_index») (sym e) ∙ h
 
-  pub up-none : (o : ObjectNumber) → x .«parent_index» ≡ NoParent
-      → Became r (withRows (view r) (handedTo (ancestors (rowsIn (view r .prepared)) i) o (rowsIn (view r .prepared))))
-  up-none o e =
-      record { laid = l; seen = own-rows (view r) ∙ ap (withRows (view r)) (hand-none (rowsOf r) i o (parent-here NoParent e)) }
+pub up-none : (r : List ℕ) (i : ℕ) (x : Edit) (o : ObjectNumber) → Laid r → x ≡ rowAt (rowsIn (view r .prepared)) i → x .«parent_index» ≡ NoParent
+    → Became r (withRows (view r) (handedTo (ancestors (rowsIn (view r .prepared)) i) o (rowsIn (view r .prepared))))
+up-none r i x o l e h =
+    record { laid = l; seen = own-rows (view r) ∙ ap (withRows (view r)) (hand-none (rowsOf r) i o (parent-here (rowsOf r) i x NoParent e h)) }
 
-  module _ (w : Upward (length (rowsIn (view r .prepared))) (rowsIn (view r .prepared))) (p : ℕ) (e : x .«parent_index» ≡ Parent p) where
-    pub up-falls : p < i
-    up-falls = falls (rowsOf r) i (length (rowsOf r)) w h p (parent-here (Parent p) e)
+-- the row at place i has the parent p
+pub record Under (r : List ℕ) (i p : ℕ) : Type 0 where
+  pub laid : Laid r
+  pub there : i < length (rowsIn (view r .prepared))
+  pub upward : Upward (length (rowsIn (view r .prepared))) (rowsIn (view r .prepared))
+  pub parent : parentAt (rowsIn (view r .prepared)) i ≡ Parent p
 
-    pub up-in : p < length (rowsIn (view r .prepared))
-    up-in = let q : p < i = up-falls in omega arith
+pub under : (r : List ℕ) (i p : ℕ) (x : Edit) → Laid r → i < length (rowsIn (view r .prepared))
+    → Upward (length (rowsIn (view r .prepared))) (rowsIn (view r .prepared)) → x ≡ rowAt (rowsIn (view r .prepared)) i
+    → x .«parent_index» ≡ Parent p → Under r i p
+under r i p x l h w e k = record { laid = l; there = h; upward = w; parent = parent-here (rowsOf r) i x (Parent p) e k }
 
-    -- y is the parent, up the parent with the leaf-previous
-    module _ (o : ObjectNumber) (y up : Edit) (ey : y ≡ rowAt (rowsIn (view r .prepared)) p) (eu : up ≡ withLeaf o y) where
-      pub up-fits : o .0 < 2 ^ 64 → FitsRow up
-      up-fits k =
-          let f : FitsRow y = fits-at r l p y up-in ey in
-          subst FitsRow (sym eu)
-          (record { name = f .name; deref = f .deref; message = f .message; was = f .was; new = f .new; parent = f .parent; leaf = k })
+-- the leaf-previous is in the row at place p, up
+pub leafed : (r r₁ : List ℕ) (p : ℕ) (o : ObjectNumber) (y up : Edit) → y ≡ rowAt (rowsIn (view r .prepared)) p → up ≡ withLeaf o y
+    → Became r₁ (withRows (view r) (set (rowsIn (view r .prepared)) p up))
+    → Became r₁ (withRows (view r) (set (rowsIn (view r .prepared)) p (withLeaf o (rowAt (rowsIn (view r .prepared)) p))))
+leafed r r₁ p o y up ey eu b =
+    subst (λ (x : Edit). Became r₁ (withRows (view r) (set (rowsOf r) p x))) (eu ∙ ap (withLeaf o) ey) b
 
-      stored : set (rowsOf r) p up ≡ set (rowsOf r) p (withLeaf o (rowAt (rowsOf r) p))
-      stored = ap (set (rowsOf r) p) (eu ∙ ap (withLeaf o) ey)
+module _ {r : List ℕ} {i p : ℕ} (u : Under r i p) where
+  pub up-falls : p < i
+  up-falls = falls (rowsOf r) i (length (rowsOf r)) (u .upward) (u .there) p (u .parent)
 
-      module _ (r₁ : List ℕ) (b : Became r₁ (withRows (view r) (set (rowsIn (view r .prepared)) p up))) where
-        seen : rowsOf r₁ ≡ set (rowsOf r) p (withLeaf o (rowAt (rowsOf r) p))
-        seen = rows-seen r r₁ i _ h b ∙ stored
+  pub up-in : p < length (rowsIn (view r .prepared))
+  up-in = let q : p < i = up-falls in let h : i < length (rowsOf r) = u .there in omega arith
 
-        pub up-still : p < length (rowsIn (view r₁ .prepared))
-        up-still =
-            let n : length (rowsOf r₁) ≡ length (rowsOf r) = ap length seen ∙ length-set (rowsOf r) p _ in
-            let k : p < length (rowsOf r) = up-in in
-            omega arith
+  pub up-fits : (o : ObjectNumber) (y up : Edit) → y ≡ rowAt (rowsIn (view r .prepared)) p → up ≡ withLeaf o y → o .0 < 2 ^ 64 → FitsRow up
+  up-fits o y up ey eu k =
+      let f : FitsRow y = fits-at r (u .laid) p y up-in ey in
+      subst FitsRow (sym eu)
+      (record { name = f .name; deref = f .deref; message = f .message; was = f .was; new = f .new; parent = f .parent; leaf = k })
 
-        pub up-upward : Upward (length (rowsIn (view r₁ .prepared))) (rowsIn (view r₁ .prepared))
-        up-upward =
-            subst (λ (k : List Edit). Upward (length k) k) (sym seen)
-            (leaf-upward (rowsOf r) i o w h p (parent-here (Parent p) e))
+  module _ (o : ObjectNumber) (r₁ : List ℕ)
+      (b : Became r₁ (withRows (view r) (set (rowsIn (view r .prepared)) p (withLeaf o (rowAt (rowsIn (view r .prepared)) p))))) where
+    seen : rowsOf r₁ ≡ set (rowsOf r) p (withLeaf o (rowAt (rowsOf r) p))
+    seen = rows-seen r r₁ i _ (u .there) b
 
-        pub up-more : (r₂ : List ℕ)
-            → Became r₂ (withRows (view r₁) (handedTo (ancestors (rowsIn (view r₁ .prepared)) p) o (rowsIn (view r₁ .prepared))))
-            → Became r₂ (withRows (view r) (handedTo (ancestors (rowsIn (view r .prepared)) i) o (rowsIn (view r .prepared))))
-        up-more r₂ c =
-            then r r₁ i _ h b r₂ _ (λ (k : List Edit). handedTo (ancestors k p) o k)
-            (ap (λ (k : List Edit). handedTo (ancestors k p) o k) stored
-            ∙ hand-up (rowsOf r) i o w h p (parent-here (Parent p) e))
-            c
+    pub up-still : p < length (rowsIn (view r₁ .prepared))
+    up-still =
+        let n : length (rowsOf r₁) ≡ length (rowsOf r) = ap length seen ∙ length-set (rowsOf r) p _ in
+        let k : p < length (rowsOf r) = up-in in
+        omega arith
+
+    pub up-upward : Upward (length (rowsIn (view r₁ .prepared))) (rowsIn (view r₁ .prepared))
+    up-upward = subst (λ (k : List Edit). Upward (length k) k) (sym seen) (leaf-upward (rowsOf r) p o (u .upward))
+
+    pub up-more : (r₂ : List ℕ)
+        → Became r₂ (withRows (view r₁) (handedTo (ancestors (rowsIn (view r₁ .prepared)) p) o (rowsIn (view r₁ .prepared))))
+        → Became r₂ (withRows (view r) (handedTo (ancestors (rowsIn (view r .prepared)) i) o (rowsIn (view r .prepared))))
+    up-more r₂ c =
+        then r r₁ i _ (u .there) b r₂ _ (λ (k : List Edit). handedTo (ancestors k p) o k)
+        (hand-up (rowsOf r) i o (u .upward) (u .there) p (u .parent)) c
 
 -- ---- an existing value fits
 
@@ -171,16 +180,10 @@ observing-message (Delete expected log) (Present t) = refl
 -- ---- the turn
 
 -- row is the row at place i, x the existing value, kept the row with it
-module _ (r : List ℕ) (l : Laid r) (i : ℕ) (h : i < length (rowsIn (view r .prepared))) (opened : Bool) (row : Edit) (x : OptionTarget) (kept : Edit)
-    (er : row ≡ rowAt (rowsIn (view r .prepared)) i) (ex : x ≡ existing (view r) opened row) (ek : kept ≡ observed row x) where
-  ex′ : x ≡ existing (view r) opened (rowAt (rowsIn (view r .prepared)) i)
-  ex′ = ex ∙ ap (existing (view r) opened) er
-
-  ek′ : kept ≡ observed (rowAt (rowsIn (view r .prepared)) i) x
-  ek′ = ek ∙ ap (λ (r : Edit). observed r x) er
-
-  pub kept-fits : FitsRow kept
-  kept-fits =
+module _ (r : List ℕ) (i : ℕ) (opened : Bool) (row : Edit) (x : OptionTarget) (kept : Edit) (er : row ≡ rowAt (rowsIn (view r .prepared)) i)
+    (ex : x ≡ existing (view r) opened row) (ek : kept ≡ observed row x) where
+  pub kept-fits : Laid r → i < length (rowsIn (view r .prepared)) → FitsRow kept
+  kept-fits l h =
       let f : FitsRow row = fits-at r l i row h er in
       subst FitsRow (sym ek)
       (record {
@@ -193,24 +196,28 @@ module _ (r : List ℕ) (l : Laid r) (i : ℕ) (h : i < length (rowsIn (view r .
         leaf = f .leaf;
       })
 
-  module _ (r₁ : List ℕ) (b : Became r₁ (withRows (view r) (set (rowsIn (view r .prepared)) i kept))) where
-    pub turn-none : previousOid (changeIn kept) ≡ NoId → Became r₁ (withRows (view r) (turned (view r) opened (rowsIn (view r .prepared)) i))
-    turn-none e = subst (λ (k : List Edit). Became r₁ (withRows (view r) k)) (turned-none (view r) opened (rowsOf r) i x kept ex′ ek′ e) b
+  pub kept-is : kept ≡ observed (rowAt (rowsIn (view r .prepared)) i) (existing (view r) opened (rowAt (rowsIn (view r .prepared)) i))
+  kept-is = ek ∙ ap (observed row) ex ∙ ap (λ (r′ : Edit). observed r′ (existing (view r) opened r′)) er
 
-    pub turn-still : i < length (rowsIn (view r₁ .prepared))
-    turn-still =
-        let n : length (rowsOf r₁) ≡ length (rowsOf r) = ap length (rows-seen r r₁ i _ h b) ∙ length-set (rowsOf r) i kept in
-        omega arith
+-- the row kept is in the region
+module _ (r : List ℕ) (i : ℕ) (h : i < length (rowsIn (view r .prepared))) (opened : Bool) (kept : Edit)
+    (e : kept ≡ observed (rowAt (rowsIn (view r .prepared)) i) (existing (view r) opened (rowAt (rowsIn (view r .prepared)) i)))
+    (r₁ : List ℕ) (b : Became r₁ (withRows (view r) (set (rowsIn (view r .prepared)) i kept))) where
+  pub turn-none : previousOid (changeIn kept) ≡ NoId → Became r₁ (withRows (view r) (turned (view r) opened (rowsIn (view r .prepared)) i))
+  turn-none ey = subst (λ (k : List Edit). Became r₁ (withRows (view r) k)) (turned-none (view r) opened (rowsOf r) i kept e ey) b
 
-    pub turn-upward : Upward (length (rowsIn (view r .prepared))) (rowsIn (view r .prepared))
-        → Upward (length (rowsIn (view r₁ .prepared))) (rowsIn (view r₁ .prepared))
-    turn-upward w =
-        subst (λ (k : List Edit). Upward (length k) k) (sym (rows-seen r r₁ i _ h b))
-        (kept-upward (view r) opened (rowsOf r) i x kept ex′ ek′ w)
+  pub turn-still : i < length (rowsIn (view r₁ .prepared))
+  turn-still =
+      let n : length (rowsOf r₁) ≡ length (rowsOf r) = ap length (rows-seen r r₁ i _ h b) ∙ length-set (rowsOf r) i kept in
+      omega arith
 
-    pub turn-handed : (o : ObjectNumber) (r₂ : List ℕ) → previousOid (changeIn kept) ≡ Id o
-        → Became r₂ (withRows (view r₁) (handedTo (ancestors (rowsIn (view r₁ .prepared)) i) o (rowsIn (view r₁ .prepared))))
-        → Became r₂ (withRows (view r) (turned (view r) opened (rowsIn (view r .prepared)) i))
-    turn-handed o r₂ e c =
-        then r r₁ i _ h b r₂ _ (λ (k : List Edit). handedTo (ancestors k i) o k)
-        (turned-handed (view r) opened (rowsOf r) i x kept ex′ ek′ o e) c
+  pub turn-upward : Upward (length (rowsIn (view r .prepared))) (rowsIn (view r .prepared))
+      → Upward (length (rowsIn (view r₁ .prepared))) (rowsIn (view r₁ .prepared))
+  turn-upward w =
+      subst (λ (k : List Edit). Upward (length k) k) (sym (rows-seen r r₁ i _ h b)) (kept-upward (view r) opened (rowsOf r) i kept e w)
+
+  pub turn-handed : (o : ObjectNumber) (r₂ : List ℕ) → previousOid (changeIn kept) ≡ Id o
+      → Became r₂ (withRows (view r₁) (handedTo (ancestors (rowsIn (view r₁ .prepared)) i) o (rowsIn (view r₁ .prepared))))
+      → Became r₂ (withRows (view r) (turned (view r) opened (rowsIn (view r .prepared)) i))
+  turn-handed o r₂ ey c =
+      then r r₁ i _ h b r₂ _ (λ (k : List Edit). handedTo (ancestors k i) o k) (turned-handed (view r) opened (rowsOf r) i kept e o ey) c

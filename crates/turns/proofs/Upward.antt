@@ -1,11 +1,11 @@
 -- Among the rows that splitting leaves every parent is an earlier row: a round's children have theirs among the rows before them.
 -- Assumes nothing.
-use mathlib.Core.Path.{_≡_, refl, sym, ap, subst, _∙_}
+use mathlib.Core.Path.{_≡_, refl, sym, subst}
 use mathlib.Core.Bool.{true}
 use mathlib.Core.List.{List, [], _∷_, _++_, map}
 use Prim.Native.Nat.{ℕ, zero, suc, _+_, _≤_, _<_}
 use native.Mathlib.Omega.{arith}
-use lib.ListN.{length, length-append, length-map, List·getD-map}
+use lib.ListN.{length, length-append, length-map}
 use lib.Dec.{ltb}
 use borrow.Author.Tests.{lt-ltb}
 use Rattle.target.specs.declared.OptionName.{OptionName}
@@ -15,7 +15,6 @@ use Rattle.transaction.specs.declared.ParentIndex.{ParentIndex}
 use Rattle.transaction.specs.declared.Edit.{Edit}
 use Rattle.transaction.specs.Change.{rowOf}
 use Rattle.model.specs.Store.{Store, noRow}
-use Rattle.model.specs.Rows.{rowAt}
 use Rattle.model.specs.Outcome.Outcome.{pass}
 use Rattle.model.specs.Split.{referent, settled, childOf, settleAll, childrenFrom, rounds, splits}
 use Rattle.model.specs.Fine.{fineParent, Upward}

@@ -205,8 +205,8 @@ fn turn_row(region: &mut [u8], i: usize, opened: bool)
     let row = region::row_at(region, i);
     let update = row.update;
     let name = update.name;
-    let existing = steps::value_of(region, opened, name);
-    let kept = observe(row, existing);
+    let found = steps::value_of(region, opened, name);
+    let kept = observe(row, found);
     writers::put_row_at(region, i, kept);
     let edit = kept.update;
     let change = edit.change;

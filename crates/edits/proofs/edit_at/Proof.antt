@@ -1,25 +1,16 @@
-use Rattle.edits.proofs.Lists.{record-room, edit-not, edit-is}
+use Rattle.edits.proofs.Lists.{times-fits, place-fits, end-fits, record-room, edit-not, edit-is}
 use borrow.Author.Needs.{needs}
 use Rattle.edits.proofs.edit_at.Statement.{statement}
 use Rattle.edits.proofs.edit_at.Tie as tie
 
 mul-at : tie.Need-mul-at
-mul-at c =
-    let a = c .before in
-    let r = record-room (a .args .list .now) (a .args .i) (a .pre .0 .formed) (a .pre .1) in
-    search needs
+mul-at c = search times-fits
 
 add-at : tie.Need-add-at
-add-at c =
-    let a = c .before in
-    let r = record-room (a .args .list .now) (a .args .i) (a .pre .0 .formed) (a .pre .1) in
-    search needs
+add-at c = search place-fits
 
 add-e : tie.Need-add-e
-add-e c =
-    let a = c .before in
-    let r = record-room (a .args .list .now) (a .args .i) (a .pre .0 .formed) (a .pre .1) in
-    search needs
+add-e c = search end-fits
 
 sub-get-edit : tie.Need-sub-get-edit
 sub-get-edit c = search needs
@@ -28,10 +19,7 @@ part-get-edit-start : tie.Need-part-get-edit-start
 part-get-edit-start c = search needs
 
 part-get-edit-end : tie.Need-part-get-edit-end
-part-get-edit-end c =
-    let a = c .before in
-    let r = record-room (a .args .list .now) (a .args .i) (a .pre .0 .formed) (a .pre .1) in
-    search needs
+part-get-edit-end c = search record-room
 
 get-edit-requires : tie.Need-get-edit-requires
 get-edit-requires c κs = search needs

@@ -1,31 +1,18 @@
-use borrow.Author.Needs.{needs}
-use Rattle.edits.proofs.Lists.{record-room, followed}
+use Rattle.edits.proofs.Lists.{times-fits, place-fits, flag-fits, flag-room, followed}
 use Rattle.edits.proofs.is_followed.Statement.{statement}
 use Rattle.edits.proofs.is_followed.Tie as tie
 
 mul-at : tie.Need-mul-at
-mul-at c =
-    let a = c .before in
-    let r = record-room (a .args .list .now) (a .args .i) (a .pre .0) (a .pre .1) in
-    search needs
+mul-at c = search times-fits
 
 add-at : tie.Need-add-at
-add-at c =
-    let a = c .before in
-    let r = record-room (a .args .list .now) (a .args .i) (a .pre .0) (a .pre .1) in
-    search needs
+add-at c = search place-fits
 
 add-byte-at : tie.Need-add-byte-at
-add-byte-at c =
-    let a = c .before in
-    let r = record-room (a .args .list .now) (a .args .i) (a .pre .0) (a .pre .1) in
-    search needs
+add-byte-at c = search flag-fits
 
 byte-at-requires : tie.Need-byte-at-requires
-byte-at-requires c κs =
-    let a = c .before in
-    let r = record-room (a .args .list .now) (a .args .i) (a .pre .0) (a .pre .1) in
-    search needs
+byte-at-requires c κs = search flag-room
 
 returns : tie.Need-returns
 returns c = search followed

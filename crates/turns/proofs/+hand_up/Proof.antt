@@ -1,15 +1,15 @@
-use Rattle.turns.proofs.Turned.{up-none, up-falls, up-in, up-fits, up-still, up-upward, up-more}
-use borrow.Author.Needs.{needs}
-use native.Mathlib.Omega.{arith}
 use Prim.Native.Nat.{ℕ, _<_}
+use native.Mathlib.Omega.{arith}
+use borrow.Author.Needs.{needs}
 use borrow.Fn.Kinds.{In}
 use borrow.Fn.PlainCycle.{Measures, is, falls, and}
+use Rattle.region.proofs.row_at.Reads as row-at-reads
+use Rattle.writers.proofs.put_row_at.Reads as put-row-at-reads
+use Rattle.turns.proofs.Turned.{up-none, under, leafed, up-falls, up-in, up-fits, up-still, up-upward, up-more}
 use Rattle.turns.proofs.hand_up.Reads as hand-up
 use Rattle.turns.proofs.hand_up.Kinds as hand-up-kinds
 use Rattle.turns.proofs.+hand_up.Lts-hand_up as hand-up-lts
 use Rattle.turns.proofs.with_leaf.Reads as with-leaf-reads
-use Rattle.region.proofs.row_at.Reads as row-at-reads
-use Rattle.writers.proofs.put_row_at.Reads as put-row-at-reads
 use Rattle.turns.proofs.+hand_up.{statement}
 use Rattle.turns.proofs.+hand_up.Tie.{close}
 
@@ -92,7 +92,12 @@ hand-up-row-at-requires-2 : (t : ℕ) → hand-up-lts.Need-row-at-requires-2 (
   hand-up-below t,
   hand-up.Post,
 ) (hand-up-at t) hand-up.Post
-hand-up-row-at-requires-2 t c κs = (search needs, search up-in)
+hand-up-row-at-requires-2 t c κs =
+    let par = c .before .before in
+    let row = par .before .before in
+    let s = row .before .before .before in
+    let u = under _ (s .args .i) _ _ (s .pre .1 .0) (s .pre .1 .1 .0) (s .pre .1 .1 .1) (row .row-at .ensures) (par .parent .given .1) in
+    (u .laid, up-in u)
 
 hand-up-with-leaf-requires : (t : ℕ) → hand-up-lts.Need-with-leaf-requires (
   row-at-reads.Asked,
@@ -117,12 +122,13 @@ hand-up-put-row-at-requires : (t : ℕ) → hand-up-lts.Need-put-row-at-requires
   hand-up.Post,
 ) (hand-up-at t) hand-up.Post
 hand-up-put-row-at-requires t c κs =
-    let leafed = c .before in
-    let row2 = leafed .before in
+    let leaf = c .before in
+    let row2 = leaf .before in
     let par = row2 .before .before .before in
     let row = par .before .before in
     let s = row .before .before .before in
-    (s .pre .1 .0, (up-in _ (s .pre .1 .0) (s .args .i) (s .pre .1 .1 .0) _ (row .row-at .ensures) (s .pre .1 .1 .1) _ (par .parent .given .1), up-fits _ (s .pre .1 .0) (s .args .i) (s .pre .1 .1 .0) _ (row .row-at .ensures) (s .pre .1 .1 .1) _ (par .parent .given .1) (s .args .leaf) _ _ (row2 .row-at2 .ensures) (leafed .with-leaf .ensures) (s .good .1 .1 .0 .1 .1 .0 .1)))
+    let u = under _ (s .args .i) _ _ (s .pre .1 .0) (s .pre .1 .1 .0) (s .pre .1 .1 .1) (row .row-at .ensures) (par .parent .given .1) in
+    (u .laid, (up-in u, up-fits u (s .args .leaf) _ _ (row2 .row-at2 .ensures) (leaf .with-leaf .ensures) (s .good .1 .1 .0 .1 .1 .0 .1)))
 
 hand-up-hand-up-requires : (t : ℕ) → hand-up-lts.Need-hand-up-requires (
   row-at-reads.Asked,
@@ -136,13 +142,15 @@ hand-up-hand-up-requires : (t : ℕ) → hand-up-lts.Need-hand-up-requires (
 ) (hand-up-at t) hand-up.Post
 hand-up-hand-up-requires t c κs =
     let put = c .before .before .before in
-    let leafed = put .before .before in
-    let row2 = leafed .before in
+    let leaf = put .before .before in
+    let row2 = leaf .before in
     let par = row2 .before .before .before in
     let row = par .before .before in
     let s = row .before .before .before in
-    let q = up-falls _ (s .pre .1 .0) (s .args .i) (s .pre .1 .1 .0) _ (row .row-at .ensures) (s .pre .1 .1 .1) _ (par .parent .given .1) in
-    (omega arith, (put .put-row-at .ensures .laid, (up-still _ (s .pre .1 .0) (s .args .i) (s .pre .1 .1 .0) _ (row .row-at .ensures) (s .pre .1 .1 .1) _ (par .parent .given .1) (s .args .leaf) _ _ (row2 .row-at2 .ensures) (leafed .with-leaf .ensures) _ (put .put-row-at .ensures), up-upward _ (s .pre .1 .0) (s .args .i) (s .pre .1 .1 .0) _ (row .row-at .ensures) (s .pre .1 .1 .1) _ (par .parent .given .1) (s .args .leaf) _ _ (row2 .row-at2 .ensures) (leafed .with-leaf .ensures) _ (put .put-row-at .ensures))))
+    let u = under _ (s .args .i) _ _ (s .pre .1 .0) (s .pre .1 .1 .0) (s .pre .1 .1 .1) (row .row-at .ensures) (par .parent .given .1) in
+    let b = leafed _ _ _ (s .args .leaf) _ _ (row2 .row-at2 .ensures) (leaf .with-leaf .ensures) (put .put-row-at .ensures) in
+    let q = up-falls u in
+    (omega arith, (b .laid, (up-still u (s .args .leaf) _ b, up-upward u (s .args .leaf) _ b)))
 
 hand-up-same-length-2 : (t : ℕ) → hand-up-lts.Need-same-length-2 (
   row-at-reads.Asked,
@@ -169,12 +177,14 @@ hand-up-returns-2 : (t : ℕ) → hand-up-lts.Need-returns-2 (
 hand-up-returns-2 t c =
     let up = c .before .before in
     let put = up .before .before .before .before in
-    let leafed = put .before .before in
-    let row2 = leafed .before in
+    let leaf = put .before .before in
+    let row2 = leaf .before in
     let par = row2 .before .before .before in
     let row = par .before .before in
     let s = row .before .before .before in
-    up-more _ (s .pre .1 .0) (s .args .i) (s .pre .1 .1 .0) _ (row .row-at .ensures) (s .pre .1 .1 .1) _ (par .parent .given .1) (s .args .leaf) _ _ (row2 .row-at2 .ensures) (leafed .with-leaf .ensures) _ (put .put-row-at .ensures) _ (up .hand-up .ensures)
+    let u = under _ (s .args .i) _ _ (s .pre .1 .0) (s .pre .1 .1 .0) (s .pre .1 .1 .1) (row .row-at .ensures) (par .parent .given .1) in
+    let b = leafed _ _ _ (s .args .leaf) _ _ (row2 .row-at2 .ensures) (leaf .with-leaf .ensures) (put .put-row-at .ensures) in
+    up-more u (s .args .leaf) _ b _ (up .hand-up .ensures)
 
 pub +hand-up-spec : {M : Type 1} → statement M
 +hand-up-spec = close μ-hand-up λ t. hand-up-lts.spec (

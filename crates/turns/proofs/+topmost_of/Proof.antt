@@ -1,13 +1,13 @@
-use borrow.Author.Needs.{needs}
-use native.Mathlib.Omega.{arith}
-use Rattle.turns.proofs.Turns.{top-none, top-falls, top-up}
 use Prim.Native.Nat.{ℕ, _<_}
+use native.Mathlib.Omega.{arith}
+use borrow.Author.Needs.{needs}
 use borrow.Fn.Kinds.{In}
 use borrow.Fn.PlainCycle.{Measures, is, falls, and}
+use Rattle.region.proofs.row_at.Reads as row-at-reads
+use Rattle.turns.proofs.Turns.{top-none, top-falls, top-up}
 use Rattle.turns.proofs.topmost_of.Reads as topmost-of
 use Rattle.turns.proofs.topmost_of.Kinds as topmost-of-kinds
 use Rattle.turns.proofs.+topmost_of.Lts-topmost_of as topmost-of-lts
-use Rattle.region.proofs.row_at.Reads as row-at-reads
 use Rattle.turns.proofs.+topmost_of.{statement}
 use Rattle.turns.proofs.+topmost_of.Tie.{close}
 

@@ -1,5 +1,5 @@
-use Rattle.turns.proofs.Judges.{free-same, free-other}
 use borrow.Author.Needs.{needs}
+use Rattle.turns.proofs.Judges.{free-same, free-other}
 use Rattle.turns.proofs.free_for.Statement.{statement}
 use Rattle.turns.proofs.free_for.Tie as tie
 

@@ -1,5 +1,5 @@
-use Rattle.turns.proofs.Turns.{held-none, held-at}
 use borrow.Author.Needs.{needs}
+use Rattle.turns.proofs.Turns.{held-none, held-at}
 use Rattle.turns.proofs.held_by_others.Statement.{statement}
 use Rattle.turns.proofs.held_by_others.Tie as tie
 

@@ -1,5 +1,5 @@
-use Rattle.turns.proofs.Judges.{judge-update-is, judge-delete-is}
 use borrow.Author.Needs.{needs}
+use Rattle.turns.proofs.Judges.{judge-update-is, judge-delete-is}
 use Rattle.turns.proofs.judge_change.Statement.{statement}
 use Rattle.turns.proofs.judge_change.Tie as tie
 

@@ -1,5 +1,5 @@
-use Rattle.turns.proofs.Judges.{delete-absent, delete-not, delete-match-absent, delete-match, delete-may}
 use borrow.Author.Needs.{needs}
+use Rattle.turns.proofs.Judges.{delete-absent, delete-not, delete-match-absent, delete-match, delete-may}
 use Rattle.turns.proofs.judge_delete.Statement.{statement}
 use Rattle.turns.proofs.judge_delete.Tie as tie
 

@@ -1,7 +1,5 @@
-use Rattle.region.specs.Region.{view}
-use Rattle.model.specs.Store.{rowsIn}
-use Rattle.turns.proofs.Turns.{turn-held, turn-judged}
 use borrow.Author.Needs.{needs}
+use Rattle.turns.proofs.Turns.{turn-held, turn-judged}
 use Rattle.turns.proofs.judge_turn.Statement.{statement}
 use Rattle.turns.proofs.judge_turn.Tie as tie
 

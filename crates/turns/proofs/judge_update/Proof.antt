@@ -1,5 +1,5 @@
-use Rattle.turns.proofs.Judges.{update-absent, update-not, update-match-absent, update-match, update-may}
 use borrow.Author.Needs.{needs}
+use Rattle.turns.proofs.Judges.{update-absent, update-not, update-match-absent, update-match, update-may}
 use Rattle.turns.proofs.judge_update.Statement.{statement}
 use Rattle.turns.proofs.judge_update.Tie as tie
 

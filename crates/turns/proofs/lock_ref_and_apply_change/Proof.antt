@@ -1,6 +1,5 @@
-use mathlib.Core.Path.{refl}
-use Rattle.turns.proofs.Turns.{turn-refused, turn-passed}
 use borrow.Author.Needs.{needs}
+use Rattle.turns.proofs.Turns.{turn-refused, turn-passed}
 use Rattle.turns.proofs.lock_ref_and_apply_change.Statement.{statement}
 use Rattle.turns.proofs.lock_ref_and_apply_change.Tie as tie
 

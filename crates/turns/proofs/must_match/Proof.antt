@@ -1,5 +1,5 @@
-use Rattle.turns.proofs.Judges.{match-same, match-other}
 use borrow.Author.Needs.{needs}
+use Rattle.turns.proofs.Judges.{match-same, match-other}
 use Rattle.turns.proofs.must_match.Statement.{statement}
 use Rattle.turns.proofs.must_match.Tie as tie
 

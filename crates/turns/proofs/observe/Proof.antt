@@ -1,5 +1,5 @@
-use Rattle.turns.proofs.Judges.{observed-is}
 use borrow.Author.Needs.{needs}
+use Rattle.turns.proofs.Judges.{observed-is}
 use Rattle.turns.proofs.observe.Statement.{statement}
 use Rattle.turns.proofs.observe.Tie as tie
 

@@ -1,5 +1,5 @@
-use Rattle.turns.proofs.Judges.{observing-update, observing-delete}
 use borrow.Author.Needs.{needs}
+use Rattle.turns.proofs.Judges.{observing-update, observing-delete}
 use Rattle.turns.proofs.observing_in.Statement.{statement}
 use Rattle.turns.proofs.observing_in.Tie as tie
 

@@ -1,6 +1,6 @@
-use borrow.Author.Needs.{needs}
-use native.Mathlib.Omega.{arith}
 use Prim.Native.Nat.{_-_}
+use native.Mathlib.Omega.{arith}
+use borrow.Author.Needs.{needs}
 use Rattle.turns.proofs.Turns.{Far, far-start, far-more, far-stop, far-end}
 use Rattle.turns.proofs.take_turns.Statement.{statement}
 use Rattle.turns.proofs.take_turns.Tie as tie

@@ -1,6 +1,6 @@
-use Rattle.turns.proofs.Turned.{kept-fits, turn-none, turn-still, turn-upward, turn-handed}
-use mathlib.Core.Path.{_≡_, sym, _∙_}
+use mathlib.Core.Path.{sym, _∙_}
 use borrow.Author.Needs.{needs}
+use Rattle.turns.proofs.Turned.{kept-fits, kept-is, turn-none, turn-still, turn-upward, turn-handed}
 use Rattle.turns.proofs.turn_row.Statement.{statement}
 use Rattle.turns.proofs.turn_row.Tie as tie
 
@@ -36,7 +36,8 @@ returns c =
     let value = observe .before in
     let row = value .before .before .before .before in
     let s = row .before .before .before in
-    turn-none _ (s .pre .0) (s .args .i) (s .pre .1 .0) (s .args .opened) _ _ _ (row .row-at .ensures) (value .value-of .ensures) (observe .observe .ensures) _ (put .put-row-at .ensures) (sym (prev .previous-oid .ensures) ∙ c .enum-told .given .1)
+    let e = kept-is _ (s .args .i) (s .args .opened) _ _ _ (row .row-at .ensures) (value .value-of .ensures) (observe .observe .ensures) in
+    turn-none _ (s .args .i) (s .pre .1 .0) (s .args .opened) _ e _ (put .put-row-at .ensures) (sym (prev .previous-oid .ensures) ∙ c .enum-told .given .1)
 
 hand-up-requires : tie.Need-hand-up-requires
 hand-up-requires c κs =
@@ -46,7 +47,10 @@ hand-up-requires c κs =
     let value = observe .before in
     let row = value .before .before .before .before in
     let s = row .before .before .before in
-    (put .put-row-at .ensures .laid, (turn-still _ (s .pre .0) (s .args .i) (s .pre .1 .0) (s .args .opened) _ _ _ (row .row-at .ensures) (value .value-of .ensures) (observe .observe .ensures) _ (put .put-row-at .ensures), turn-upward _ (s .pre .0) (s .args .i) (s .pre .1 .0) (s .args .opened) _ _ _ (row .row-at .ensures) (value .value-of .ensures) (observe .observe .ensures) _ (put .put-row-at .ensures) (s .pre .1 .1)))
+    let e = kept-is _ (s .args .i) (s .args .opened) _ _ _ (row .row-at .ensures) (value .value-of .ensures) (observe .observe .ensures) in
+    let still = turn-still _ (s .args .i) (s .pre .1 .0) (s .args .opened) _ e _ (put .put-row-at .ensures) in
+    let upward = turn-upward _ (s .args .i) (s .pre .1 .0) (s .args .opened) _ e _ (put .put-row-at .ensures) (s .pre .1 .1) in
+    (put .put-row-at .ensures .laid, (still, upward))
 
 same-length-2 : tie.Need-same-length-2
 same-length-2 c = search needs
@@ -61,7 +65,9 @@ returns-2 c =
     let value = observe .before in
     let row = value .before .before .before .before in
     let s = row .before .before .before in
-    turn-handed _ (s .pre .0) (s .args .i) (s .pre .1 .0) (s .args .opened) _ _ _ (row .row-at .ensures) (value .value-of .ensures) (observe .observe .ensures) _ (put .put-row-at .ensures) (oid .oid .given .0 .0) _ (sym (prev .previous-oid .ensures) ∙ oid .oid .given .1) (up .hand-up .ensures)
+    let e = kept-is _ (s .args .i) (s .args .opened) _ _ _ (row .row-at .ensures) (value .value-of .ensures) (observe .observe .ensures) in
+    turn-handed _ (s .args .i) (s .pre .1 .0) (s .args .opened) _ e _ (put .put-row-at .ensures) (oid .oid .given .0 .0) _
+    (sym (prev .previous-oid .ensures) ∙ oid .oid .given .1) (up .hand-up .ensures)
 
 pub turn-row-spec : {M : Type 1} → statement M
 turn-row-spec =
