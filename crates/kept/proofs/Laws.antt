@@ -15,9 +15,17 @@ use Rattle.transaction.specs.declared.Edit.{Edit}
 use Rattle.model.specs.declared.Packed.{Packed}
 use Rattle.model.specs.Basic.{any, below, collect}
 use Rattle.model.specs.Store.{Store, Entry, noEntry, rowsIn, modeIn, isPacked}
-use Rattle.model.specs.Rows.{nameIn, keepsLock}
+use Rattle.model.specs.Rows.{nameIn, counts, countsAsUpdate, keepsLock}
 use Rattle.model.specs.Fine.{keptFor}
 use Rattle.rows.proofs.Laws.{any-here, any-more}
+use Rattle.kept.specs.Counting.{counting}
+
+module _ (update : Bool) (s : Store) (row : Edit) (z : Bool) where
+  pub counts-update : update ≡ true → z ≡ countsAsUpdate s row → z ≡ counting update s row
+  counts-update e h = rw e h
+
+  pub counts-any : update ≡ false → z ≡ counts s row → z ≡ counting update s row
+  counts-any e h = rw e h
 
 -- a row of a name keeps its lock, by the mode that is read
 pub kept-start : (s : Store) (n : ℕ) (mode : PackedRefs) → mode ≡ modeIn (s .prepared) → any (λ (r : Edit). eqb (nameIn r .0) n && keepsLock s mode r) (rowsIn (s .prepared)) ≡ keptFor s n

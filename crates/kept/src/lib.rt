@@ -7,10 +7,11 @@ ghost use lib.ListN.{length};
 ghost use lib.Dec.{eqb};
 ghost use Rattle.model.specs.Basic.{any, below};
 ghost use Rattle.model.specs.Store.{Entry, count, rowsIn, modeIn, isLock, isPacked};
-ghost use Rattle.model.specs.Rows.{nameIn, counts, packsUpdates, countsAsUpdate, opens, keepsLock};
+ghost use Rattle.model.specs.Rows.{nameIn, packsUpdates, countsAsUpdate, opens, keepsLock};
 ghost use Rattle.model.specs.Due.{unsigned, dueLine, dueLines};
 ghost use Rattle.model.specs.Fine.{keptFor, fineLock, finePackedLock, fineLocks, fineRoom};
 ghost use Rattle.region.specs.Region.{view, Laid};
+ghost use Rattle.kept.specs.Counting.{counting};
 use model::Line;
 use model::Lock;
 use model::OptionLine;
@@ -21,31 +22,24 @@ use transaction::PackedRefs;
 
 // ---- R2
 
-pub fn any_counts(region: &[u8]) -> bool
+fn is_counting(region: &[u8], update: bool, row: Edit) -> bool
     requires { ⌜ Laid (now region) ⌝ }
-    ensures { λ r. ⌜ r ≡ any (counts (view (now (region .entry)))) (rowsIn (view (now (region .entry)) .prepared)) ⌝ }
+    ensures { λ r. ⌜ r ≡ counting update (view (now (region .entry))) row ⌝ }
 {
-    let rows = region::count_rows(region);
-    let mut i: usize = 0;
-    while i < rows {
-        let yes = rows::counts_row(region, region::row_at(region, i));
-        if yes {
-            return true;
-        } else {
-            i += 1;
-        }
+    if update {
+        return rows::counts_as_update(region, row);
     }
-    false
+    rows::counts_row(region, row)
 }
 
-fn any_update_counts(region: &[u8]) -> bool
+pub fn any_counting(region: &[u8], update: bool) -> bool
     requires { ⌜ Laid (now region) ⌝ }
-    ensures { λ r. ⌜ r ≡ any (countsAsUpdate (view (now (region .entry)))) (rowsIn (view (now (region .entry)) .prepared)) ⌝ }
+    ensures { λ r. ⌜ r ≡ any (counting update (view (now (region .entry)))) (rowsIn (view (now (region .entry)) .prepared)) ⌝ }
 {
     let rows = region::count_rows(region);
     let mut i: usize = 0;
     while i < rows {
-        let yes = rows::counts_as_update(region, region::row_at(region, i));
+        let yes = is_counting(region, update, region::row_at(region, i));
         if yes {
             return true;
         } else {
@@ -90,7 +84,7 @@ fn packs_update(region: &[u8]) -> bool
     if mode.number() < 2 {
         return false;
     }
-    any_update_counts(region)
+    any_counting(region, true)
 }
 
 // R2: whether the packed table is opened.
@@ -98,7 +92,7 @@ pub fn opens_table(region: &[u8]) -> bool
     requires { ⌜ Laid (now region) ⌝ }
     ensures { λ r. ⌜ r ≡ opens (view (now (region .entry))) (modeIn (view (now (region .entry)) .prepared)) (rowsIn (view (now (region .entry)) .prepared)) ⌝ }
 {
-    if !any_counts(region) {
+    if !any_counting(region, false) {
         return false;
     }
     if packs_update(region) {

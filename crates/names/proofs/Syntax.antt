@@ -11,6 +11,7 @@ use Rattle.model.specs.Basic.{text, all, isEmpty}
 use Rattle.model.specs.Names.{begins, within, isUpper, isComponentByte, isSpecial, isComponent, components, isRef, isName}
 use Rattle.model.proofs.Rules.{both-true}
 use Rattle.names.specs.Ends.{ends}
+use Rattle.names.specs.Parts.{isByteOf}
 use Rattle.names.proofs.Bytes.{to-end}
 
 -- ---- special names
@@ -124,3 +125,11 @@ module _ (n : List ℕ) (some : length n ≡ 0 → ⊥) (fits : length n ≤ 64)
   pub name-ref : s ≡ false → (r : Bool) → r ≡ isRef n → r ≡ isName n
   unfolding isName
   name-ref t r er = rw (least, most, sym es ∙ t) er
+
+-- ---- a byte of either form
+
+pub byte-component : (component r : Bool) (b : ℕ) → component ≡ true → r ≡ isComponentByte b → r ≡ isByteOf component b
+byte-component component r b e h = rw e h
+
+pub byte-upper : (component r : Bool) (b : ℕ) → component ≡ false → r ≡ isUpper b → r ≡ isByteOf component b
+byte-upper component r b e h = rw e h

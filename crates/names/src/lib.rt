@@ -9,7 +9,7 @@ ghost use mathlib.Core.Path.{_≡_};
 ghost use Rattle.model.specs.Basic.{all};
 ghost use Rattle.model.specs.Names.{isUpper, isSpecial, isComponentByte, isComponent};
 ghost use Rattle.model.specs.Names.{components, isRef, isName, packable, logs};
-ghost use Rattle.names.specs.Parts.{toSlash};
+ghost use Rattle.names.specs.Parts.{toSlash, isByteOf};
 
 // A byte of a special name after its first: A to Z and `_`.
 fn is_upper(byte: u8) -> bool
@@ -31,29 +31,23 @@ fn is_component_byte(byte: u8) -> bool
     }
 }
 
-// The bytes may stand in a special name after its first.
-fn all_upper(bytes: &[u8]) -> bool
-    ensures { λ r. ⌜ r ≡ all isUpper (now (bytes .entry)) ⌝ }
+// A byte of a component, or of a special name after its first.
+fn is_byte_of(component: bool, byte: u8) -> bool
+    ensures { λ r. ⌜ r ≡ isByteOf component byte ⌝ }
 {
-    let mut i: usize = 0;
-    while i < bytes.len() {
-        let ok = is_upper(bytes[i]);
-        if ok {
-            i += 1;
-        } else {
-            return false;
-        }
+    if component {
+        return is_component_byte(byte);
     }
-    true
+    is_upper(byte)
 }
 
-// The bytes may stand in a component.
-fn all_component_bytes(bytes: &[u8]) -> bool
-    ensures { λ r. ⌜ r ≡ all isComponentByte (now (bytes .entry)) ⌝ }
+// So is each of the bytes.
+fn all_bytes(component: bool, bytes: &[u8]) -> bool
+    ensures { λ r. ⌜ r ≡ all (isByteOf component) (now (bytes .entry)) ⌝ }
 {
     let mut i: usize = 0;
     while i < bytes.len() {
-        let ok = is_component_byte(bytes[i]);
+        let ok = is_byte_of(component, bytes[i]);
         if ok {
             i += 1;
         } else {
@@ -71,7 +65,7 @@ fn is_special(name: &[u8]) -> bool
         return false;
     }
     match name[0] {
-        b'A'..=b'Z' => all_upper(&name[1..]),
+        b'A'..=b'Z' => all_bytes(false, &name[1..]),
         _ => false,
     }
 }
@@ -83,7 +77,7 @@ fn is_component(part: &[u8]) -> bool
     if part.len() == 0 {
         return false;
     }
-    if !all_component_bytes(part) {
+    if !all_bytes(true, part) {
         return false;
     }
     if spelling::begins_with(part, b".") {

@@ -3,7 +3,7 @@ use mathlib.Core.Path.{_≡_, refl, ap, ap₂, _∙_}
 use mathlib.Core.Bool.{true, cond}
 use mathlib.Core.List.{List, []}
 use mathlib.Core.Option.{Option, none, some, Option·getD}
-use Prim.Native.Nat.{ℕ, _≤_, _<_}
+use Prim.Native.Nat.{ℕ, _*_, _≤_, _<_}
 use native.Mathlib.Omega.{arith}
 use lib.ListN.{length, getD}
 use lib.Dec.{eqb, lit≤, lit<}
@@ -11,7 +11,7 @@ use Rattle.word.specs.Be.{Bytes, cut, val, be}
 use Rattle.word.specs.Be.Bytes.{none as noBytes}
 use Rattle.word.specs.Cut.{flat, start}
 use Rattle.word.specs.Table.{table, tabulate}
-use Rattle.word.specs.Codec.{Codec, elements}
+use Rattle.word.specs.Codec.{Codec, slot, okTable, elements}
 use Rattle.word.specs.Text.{FineText, encText}
 use Rattle.word.proofs.Be.{val-be, bytes-be, bytes-append}
 use Rattle.word.proofs.Cut.{cut-whole}
@@ -48,25 +48,15 @@ names = texts 64 (lit< tt)
 
 -- ---- the small parts: their bytes are small, and say which part it is
 
-setting-small : (w : WriteReflog) → settingByte w ≤ 2
-setting-small Disable = lit≤ tt
-setting-small Normal = lit≤ tt
-setting-small Always = lit≤ tt
+setting-told : (w : WriteReflog) → (settingByte w ≤ 2) × (Option·getD (settingOf (settingByte w)) Disable ≡ w)
+setting-told Disable = (lit≤ tt, refl)
+setting-told Normal = (lit≤ tt, refl)
+setting-told Always = (lit≤ tt, refl)
 
-setting-back : (w : WriteReflog) → Option·getD (settingOf (settingByte w)) Disable ≡ w
-setting-back Disable = refl
-setting-back Normal = refl
-setting-back Always = refl
-
-lock-small : (l : Lock) → lockByte l ≤ 2
-lock-small Free = lit≤ tt
-lock-small Foreign = lit≤ tt
-lock-small Ours = lit≤ tt
-
-lock-back : (l : Lock) → Option·getD (lockFrom (lockByte l)) Free ≡ l
-lock-back Free = refl
-lock-back Foreign = refl
-lock-back Ours = refl
+lock-told : (l : Lock) → (lockByte l ≤ 2) × (Option·getD (lockFrom (lockByte l)) Free ≡ l)
+lock-told Free = (lit≤ tt, refl)
+lock-told Foreign = (lit≤ tt, refl)
+lock-told Ours = (lit≤ tt, refl)
 
 number-small : (m : PackedRefs) → packedRefsNumber m ≤ 3
 number-small DeletionsOnly = lit≤ tt
@@ -144,21 +134,13 @@ module _ (s : Store) where
   unfolding sections
   lock-at = section s 7 (lit< tt)
 
-  nameTable : cut nameBase 16640 (image s) ≡ table 256 (λ (e : Entry). encText 64 (e .name)) nameWidth (s .entries)
+  -- the four columns of the entries
+  columns : (cut nameBase 16640 (image s) ≡ table 256 (λ (e : Entry). encText 64 (e .name)) nameWidth (s .entries))
+      × (cut looseBase 2304 (image s) ≡ table 256 (λ (e : Entry). looseForm (e .loose)) looseWidth (s .entries))
+      × (cut packedBase 2048 (image s) ≡ table 256 (λ (e : Entry). packedForm (e .packed)) packedWidth (s .entries))
+      × (cut lockBase 256 (image s) ≡ table 256 (λ (e : Entry). lockForm (e .lock)) lockWidth (s .entries))
   unfolding sections
-  nameTable = section s 8 (lit< tt)
-
-  looseTable : cut looseBase 2304 (image s) ≡ table 256 (λ (e : Entry). looseForm (e .loose)) looseWidth (s .entries)
-  unfolding sections
-  looseTable = section s 9 (lit< tt)
-
-  packedTable : cut packedBase 2048 (image s) ≡ table 256 (λ (e : Entry). packedForm (e .packed)) packedWidth (s .entries)
-  unfolding sections
-  packedTable = section s 10 (lit< tt)
-
-  lockTable : cut lockBase 256 (image s) ≡ table 256 (λ (e : Entry). lockForm (e .lock)) lockWidth (s .entries)
-  unfolding sections
-  lockTable = section s 11 (lit< tt)
+  columns = (section s 8 (lit< tt), section s 9 (lit< tt), section s 10 (lit< tt), section s 11 (lit< tt))
 
   rowTable : cut rowBase 5760 (image s) ≡ table 160 rowForm rowWidth (rowsIn (s .prepared))
   unfolding sections
@@ -172,14 +154,14 @@ module _ (s : Store) where
 
 module _ (s : Store) where
   setting-image : val (cut settingAt 1 (image s)) ≡ settingByte (s .setting)
-  setting-image = ap val (setting-at s) ∙ val-be 1 (settingByte (s .setting)) (let h : settingByte (s .setting) ≤ 2 = setting-small (s .setting) in omega arith)
+  setting-image = ap val (setting-at s) ∙ val-be 1 (settingByte (s .setting)) (let h : settingByte (s .setting) ≤ 2 = setting-told (s .setting) .0 in omega arith)
 
   mode-image : modeNumber (image s) ≡ modeByte (s .prepared)
   unfolding modeNumber
   mode-image = ap val (mode-at s) ∙ val-be 1 (modeByte (s .prepared)) (let h : modeByte (s .prepared) ≤ 3 = mode-small (s .prepared) in omega arith)
 
   lock-image : val (cut packedLockAt 1 (image s)) ≡ lockByte (s .packedLock)
-  lock-image = ap val (lock-at s) ∙ val-be 1 (lockByte (s .packedLock)) (let h : lockByte (s .packedLock) ≤ 2 = lock-small (s .packedLock) in omega arith)
+  lock-image = ap val (lock-at s) ∙ val-be 1 (lockByte (s .packedLock)) (let h : lockByte (s .packedLock) ≤ 2 = lock-told (s .packedLock) .0 in omega arith)
 
 module _ (s : Store) (f : FitsStore s) where
   names-image : nameCount (image s) ≡ count s
@@ -214,19 +196,25 @@ module _ (s : Store) (f : FitsStore s) where
       (bytes-append (column-bytes rows (λ (r : Edit). r) noRow 160 (rowsIn (s .prepared)) (f .row))
       (bytes-append (column-bytes lines (λ (l : Line). l) noLine 1024 (s .lines) (f .line)) noBytes)))))))))))))
 
+  -- one column of the entries, where their parts fit: it is accepted, and each slot decodes to the entry's part
+  module _ {B : Type 0} {Fits : B → Type 0} (C : Codec B Fits) (part : Entry → B) (base : ℕ)
+      (fits : (i : ℕ) → i < count s → Fits (part (entryAt s i)))
+      (is : cut base (256 * C .w) (image s) ≡ table 256 (λ e. C .enc (part e)) (C .w) (s .entries)) where
+    column-ok : okTable (C .w) (C .test) 256 (nameCount (image s)) base (image s) ≡ true
+    column-ok = column-forth C part noEntry 256 (nameCount (image s)) base (image s) (s .entries) names-image (f .names) fits is
+
+    column-at : (i : ℕ) → i < count s → C .dec (slot base (C .w) i (image s)) ≡ part (entryAt s i)
+    column-at = column-part C part noEntry 256 (count s) base (image s) (s .entries) refl (f .names) fits is
+
   -- the values at a name, a line, a row
   entry-image : (i : ℕ) → i < count s → entrySeen (image s) i ≡ entryAt s i
   unfolding names looses packeds locks
   entry-image i h =
       entry-same _ _ _ _ (entryAt s i)
-      (column-part names (λ (e : Entry). e .name) noEntry 256 (count s) nameBase (image s) (s .entries) refl (f .names)
-      (λ j k. f .entry j k .0) (nameTable s) i h)
-      (column-part looses (λ (e : Entry). e .loose) noEntry 256 (count s) looseBase (image s) (s .entries) refl (f .names)
-      (λ j k. f .entry j k .1) (looseTable s) i h)
-      (column-part packeds (λ (e : Entry). e .packed) noEntry 256 (count s) packedBase (image s) (s .entries) refl (f .names)
-      (λ j k. f .entry j k .2) (packedTable s) i h)
-      (column-part locks (λ (e : Entry). e .lock) noEntry 256 (count s) lockBase (image s) (s .entries) refl (f .names)
-      (λ j k. tt) (lockTable s) i h)
+      (column-at names (λ (e : Entry). e .name) nameBase (λ j k. f .entry j k .0) (columns s .0) i h)
+      (column-at looses (λ (e : Entry). e .loose) looseBase (λ j k. f .entry j k .1) (columns s .1) i h)
+      (column-at packeds (λ (e : Entry). e .packed) packedBase (λ j k. f .entry j k .2) (columns s .2) i h)
+      (column-at locks (λ (e : Entry). e .lock) lockBase (λ j k. tt) (columns s .3) i h)
 
   entries-image : tabulate (nameCount (image s)) (entrySeen (image s)) ≡ s .entries
   entries-image =
@@ -247,9 +235,9 @@ module _ (s : Store) (f : FitsStore s) where
   unfolding view
   view-image =
       store-same _ _ _ _ _ s entries-image
-      (ap (λ (n : ℕ). Option·getD (lockFrom n) Free) (lock-image s) ∙ lock-back (s .packedLock))
+      (ap (λ (n : ℕ). Option·getD (lockFrom n) Free) (lock-image s) ∙ lock-told (s .packedLock) .1)
       allLines-image
-      (ap (λ (n : ℕ). Option·getD (settingOf n) Disable) (setting-image s) ∙ setting-back (s .setting))
+      (ap (λ (n : ℕ). Option·getD (settingOf n) Disable) (setting-image s) ∙ setting-told (s .setting) .1)
       (ap₂ preparedFrom (mode-image s) allRows-image ∙ prepared-back (s .prepared))
 
   parts-image : Parts (image s)
@@ -260,24 +248,16 @@ module _ (s : Store) (f : FitsStore s) where
         bytes = bytes-image;
         version = ap val (version-at s) ∙ val-be 1 1 (lit< tt);
         rest = ap val (rest-at s) ∙ val-be 4 restSize (lit< tt);
-        setting = rw setting-image (setting-small (s .setting));
+        setting = rw setting-image (setting-told (s .setting) .0);
         names = rw names-image (f .names);
         lines = rw lines-image (f .lines);
         mode = rw mode-image (mode-small (s .prepared));
         rows = rw (rows-image, mode-image) (rows-room (s .prepared) (f .rows));
-        packedLock = rw lock-image (lock-small (s .packedLock));
-        nameOk =
-            column-forth names (λ (e : Entry). e .name) noEntry 256 (nameCount (image s)) nameBase (image s) (s .entries) names-image (f .names)
-            (λ j k. f .entry j k .0) (nameTable s);
-        looseOk =
-            column-forth looses (λ (e : Entry). e .loose) noEntry 256 (nameCount (image s)) looseBase (image s) (s .entries) names-image (f .names)
-            (λ j k. f .entry j k .1) (looseTable s);
-        packedOk =
-            column-forth packeds (λ (e : Entry). e .packed) noEntry 256 (nameCount (image s)) packedBase (image s) (s .entries) names-image (f .names)
-            (λ j k. f .entry j k .2) (packedTable s);
-        lockOk =
-            column-forth locks (λ (e : Entry). e .lock) noEntry 256 (nameCount (image s)) lockBase (image s) (s .entries) names-image (f .names)
-            (λ j k. tt) (lockTable s);
+        packedLock = rw lock-image (lock-told (s .packedLock) .0);
+        nameOk = column-ok names (λ (e : Entry). e .name) nameBase (λ j k. f .entry j k .0) (columns s .0);
+        looseOk = column-ok looses (λ (e : Entry). e .loose) looseBase (λ j k. f .entry j k .1) (columns s .1);
+        packedOk = column-ok packeds (λ (e : Entry). e .packed) packedBase (λ j k. f .entry j k .2) (columns s .2);
+        lockOk = column-ok locks (λ (e : Entry). e .lock) lockBase (λ j k. tt) (columns s .3);
         rowOk =
             column-forth rows (λ (r : Edit). r) noRow 160 (rowCount (image s)) rowBase (image s) (rowsIn (s .prepared)) rows-image (f .rows)
             (f .row) (rowTable s);

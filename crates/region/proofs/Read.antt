@@ -16,6 +16,7 @@ use Rattle.word.proofs.Tests.{both-true}
 use Rattle.word.proofs.Cut.{length-cut, cut-cut}
 use Rattle.word.proofs.Slots.{okTable-held, slot-end}
 use Rattle.model.specs.Store.{Entry, noLine, count, entryAt, rowsIn}
+use Rattle.transaction.specs.declared.Edit.{Edit}
 use Rattle.model.specs.Rows as model
 use Rattle.region.specs.Layout.{nameBase, nameWidth}
 use Rattle.region.specs.Region.{modeByte, nameCount, modeNumber, rowCount, entrySeen, lineSeen, rowSeen, nameOffset, view, Laid}
@@ -99,3 +100,6 @@ module _ (r : List ℕ) (l : Laid r) (n : ℕ) (h : n < count (view r)) where
   pub name-read : cut (nameOffset n) (length (entryAt (view r) n .name)) r ≡ entryAt (view r) n .name
   name-read =
       ap (λ (xs : List ℕ). cut (nameOffset n) (length xs) r) name-at ∙ text-read r (13 + n * 65) 64 name-room name-ok ∙ sym name-at
+
+pub name-of-row : (row : Edit) (rows : List Edit) (i : ℕ) → row ≡ model.rowAt rows i → row .update .name ≡ model.nameIn (model.rowAt rows i)
+name-of-row row rows i e = ap model.nameIn e

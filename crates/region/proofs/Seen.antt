@@ -25,17 +25,18 @@ use Rattle.region.proofs.Parts.{Parts}
 
 -- ---- the small fields, of numbers that have a meaning
 
+-- what holds of 0, 1 and 2 holds of a number up to 2
+up-to-two : (P : ℕ → Type 0) → P 0 → P 1 → P 2 → (x : ℕ) → x ≤ 2 → P x
+up-to-two P a b c zero h = a
+up-to-two P a b c (suc zero) h = b
+up-to-two P a b c (suc (suc zero)) h = c
+up-to-two P a b c (suc (suc (suc n))) h = absurd (omega arith)
+
 setting-forth : (x : ℕ) → x ≤ 2 → settingByte (Option·getD (settingOf x) Disable) ≡ x
-setting-forth zero h = refl
-setting-forth (suc zero) h = refl
-setting-forth (suc (suc zero)) h = refl
-setting-forth (suc (suc (suc n))) h = absurd (omega arith)
+setting-forth = up-to-two (λ x. settingByte (Option·getD (settingOf x) Disable) ≡ x) refl refl refl
 
 lock-forth : (x : ℕ) → x ≤ 2 → lockByte (Option·getD (lockFrom x) Free) ≡ x
-lock-forth zero h = refl
-lock-forth (suc zero) h = refl
-lock-forth (suc (suc zero)) h = refl
-lock-forth (suc (suc (suc n))) h = absurd (omega arith)
+lock-forth = up-to-two (λ x. lockByte (Option·getD (lockFrom x) Free) ≡ x) refl refl refl
 
 mode-forth : (m : ℕ) (rows : List Edit) → m ≤ 3 → modeByte (preparedFrom m rows) ≡ m
 mode-forth zero rows h = refl

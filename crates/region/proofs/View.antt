@@ -2,7 +2,7 @@
 use mathlib.Core.Path.{_≡_, refl, sym, ap, ap₂, _∙_, subst}
 use mathlib.Core.Bool.{true}
 use mathlib.Core.List.{List, _∷_}
-use Prim.Native.Nat.{ℕ, _+_, _≤_, _<_}
+use Prim.Native.Nat.{ℕ, _+_, _*_, _≤_, _<_}
 use native.Mathlib.Nat.{le-of-eq, le-trans}
 use lib.ListN.{length}
 use lib.Seq.{take-all}
@@ -10,6 +10,7 @@ use lib.Dec.{lit≤}
 use Rattle.word.specs.Be.{cut, val, be}
 use Rattle.word.specs.Cut.{flat, cuts}
 use Rattle.word.specs.Table.{table}
+use Rattle.word.specs.Codec.{Codec, slot, okTable}
 use Rattle.word.specs.Text.{FineText, encText}
 use Rattle.word.proofs.Fields.{be-cut}
 use Rattle.word.proofs.Cut.{flat-cuts}
@@ -40,29 +41,26 @@ module _ (r : List ℕ) (p : Parts r) where
   field : (a k : ℕ) {x : ℕ} → a + k ≤ 49549 → x ≡ val (cut a k r) → be k x ≡ cut a k r
   field a k h e = ap (be k) e ∙ be-cut a k r (p .bytes) (inside (a + k) h)
 
-  nameTable : table 256 (λ (e : Entry). encText 64 (e .name)) nameWidth (view r .entries) ≡ cut nameBase 16640 r
-  unfolding names
-  nameTable =
-      column-back names (λ (e : Entry). e .name) noEntry 256 (nameCount r) nameBase r (view r .entries) (p .bytes)
-      (inside (nameBase + 16640) (lit≤ tt)) (p .nameOk) (count-view r) (λ i h. ap (λ (e : Entry). e .name) (entry-at r i h))
+  -- one column of the entries: the parts that the slots decode to, written, are the stretch as it stood
+  column : {B : Type 0} {Fits : B → Type 0} (C : Codec B Fits) (part : Entry → B) (base : ℕ) → base + 256 * C .w ≤ 49549
+      → okTable (C .w) (C .test) 256 (nameCount r) base r ≡ true
+      → ((i : ℕ) → part (entrySeen r i) ≡ C .dec (slot base (C .w) i r))
+      → table 256 (λ e. C .enc (part e)) (C .w) (view r .entries) ≡ cut base (256 * C .w) r
+  column C part base h ok e =
+      column-back C part noEntry 256 (nameCount r) base r (view r .entries) (p .bytes) (inside (base + 256 * C .w) h) ok (count-view r)
+      (λ i k. ap part (entry-at r i k) ∙ e i)
 
-  looseTable : table 256 (λ (e : Entry). looseForm (e .loose)) looseWidth (view r .entries) ≡ cut looseBase 2304 r
-  unfolding looses
-  looseTable =
-      column-back looses (λ (e : Entry). e .loose) noEntry 256 (nameCount r) looseBase r (view r .entries) (p .bytes)
-      (inside (looseBase + 2304) (lit≤ tt)) (p .looseOk) (count-view r) (λ i h. ap (λ (e : Entry). e .loose) (entry-at r i h))
-
-  packedTable : table 256 (λ (e : Entry). packedForm (e .packed)) packedWidth (view r .entries) ≡ cut packedBase 2048 r
-  unfolding packeds packedIn
-  packedTable =
-      column-back packeds (λ (e : Entry). e .packed) noEntry 256 (nameCount r) packedBase r (view r .entries) (p .bytes)
-      (inside (packedBase + 2048) (lit≤ tt)) (p .packedOk) (count-view r) (λ i h. ap (λ (e : Entry). e .packed) (entry-at r i h))
-
-  lockTable : table 256 (λ (e : Entry). lockForm (e .lock)) lockWidth (view r .entries) ≡ cut lockBase 256 r
-  unfolding locks
-  lockTable =
-      column-back locks (λ (e : Entry). e .lock) noEntry 256 (nameCount r) lockBase r (view r .entries) (p .bytes)
-      (inside (lockBase + 256) (lit≤ tt)) (p .lockOk) (count-view r) (λ i h. ap (λ (e : Entry). e .lock) (entry-at r i h))
+  tables : (table 256 (λ (e : Entry). encText 64 (e .name)) nameWidth (view r .entries) ≡ cut nameBase 16640 r)
+      × (table 256 (λ (e : Entry). looseForm (e .loose)) looseWidth (view r .entries) ≡ cut looseBase 2304 r)
+      × (table 256 (λ (e : Entry). packedForm (e .packed)) packedWidth (view r .entries) ≡ cut packedBase 2048 r)
+      × (table 256 (λ (e : Entry). lockForm (e .lock)) lockWidth (view r .entries) ≡ cut lockBase 256 r)
+  unfolding names looses packeds packedIn locks
+  tables = (
+    column names (λ (e : Entry). e .name) nameBase (lit≤ tt) (p .nameOk) (λ i. refl),
+    column looses (λ (e : Entry). e .loose) looseBase (lit≤ tt) (p .looseOk) (λ i. refl),
+    column packeds (λ (e : Entry). e .packed) packedBase (lit≤ tt) (p .packedOk) (λ i. refl),
+    column locks (λ (e : Entry). e .lock) lockBase (lit≤ tt) (p .lockOk) (λ i. refl),
+  )
 
   rowTable : table 160 rowForm rowWidth (rowsIn (view r .prepared)) ≡ cut rowBase 5760 r
   unfolding rows
@@ -87,10 +85,10 @@ module _ (r : List ℕ) (p : Parts r) where
       (cons (field 10 1 (lit≤ tt) (mode-byte r p))
       (cons (field 11 1 (lit≤ tt) (rows-count r p))
       (cons (field 12 1 (lit≤ tt) (packedLock-byte r p))
-      (cons nameTable
-      (cons looseTable
-      (cons packedTable
-      (cons lockTable
+      (cons (tables .0)
+      (cons (tables .1)
+      (cons (tables .2)
+      (cons (tables .3)
       (cons rowTable
       (cons lineTable refl)))))))))))))
 

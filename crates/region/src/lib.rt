@@ -5,7 +5,7 @@ ghost use Prim.Native.Nat.{_<_};
 ghost use lib.ListN.{length, getD};
 ghost use Rattle.target.specs.Fields.{nameBelow};
 ghost use Rattle.model.specs.Store.{count, entryOf, rowsIn, modeIn, noLine, noRow};
-ghost use Rattle.model.specs.Rows.{rowAt};
+ghost use Rattle.model.specs.Rows.{nameIn, rowAt};
 ghost use Rattle.region.specs.Region.{view, modeByte, Laid};
 use model::Line;
 use model::Lock;
@@ -223,6 +223,16 @@ pub fn row_at(region: &[u8], i: usize) -> Edit
         return no_row();
     };
     r
+}
+
+pub fn row_name(region: &[u8], i: usize) -> NameNumber
+    requires { ⌜ Laid (now region) ⌝ }
+    requires { ⌜ i < length (rowsIn (view (now region) .prepared)) ⌝ }
+    ensures { λ r. ⌜ r ≡ nameIn (rowAt (rowsIn (view (now (region .entry)) .prepared)) i) ⌝ }
+{
+    let row = row_at(region, i);
+    let update = row.update;
+    update.name
 }
 
 pub fn line_at(region: &[u8], i: usize) -> Line

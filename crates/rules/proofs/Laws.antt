@@ -1,9 +1,9 @@
 -- What the proofs of the rules' tests cite, over variables: each test of the code, in its order, and the turns of its loops.
 -- Assumes nothing.
 use mathlib.Core.Path.{_≡_, refl, sym, ap, ap₂, _∙_}
-use mathlib.Core.Bool.{Bool, true, false, not, and-true}
+use mathlib.Core.Bool.{Bool, true, false, not, _&&_, and-true, and-false}
 use mathlib.Core.List.{List, [], _∷_}
-use Prim.Native.Nat.{ℕ, suc, _+_, _<_, _≤_, _^_}
+use Prim.Native.Nat.{ℕ, zero, suc, _+_, _<_, _≤_, _^_}
 use native.Mathlib.Omega.{arith}
 use lib.ListN.{length, getD}
 use lib.Dec.{eqb, ltb, leb}
@@ -12,7 +12,7 @@ use borrow.Author.Tests.{lt-ltb, le-ltb, le-leb, eqb-true, eqb-false, ne-eqb, no
 use mir.Val.{Fits}
 use mir.Syntax.{w16, w64}
 use Rattle.word.specs.Tests.{sameList}
-use Rattle.word.proofs.Tests.{every-at, every-false, below-false, below-true, below-more}
+use Rattle.word.proofs.Tests.{both-true, every-at, every-false, below-false, below-true, below-more}
 use Rattle.target.specs.declared.ObjectNumber.{ObjectNumber}
 use Rattle.target.specs.declared.NameNumber.{NameNumber}
 use Rattle.target.specs.declared.Target.{Target}
@@ -34,11 +34,12 @@ use Rattle.model.specs.Names.{isName, packable}
 use Rattle.model.specs.Store.{Store, count, entryAt, entryOf, nameOf, noLine, rowsIn, isId}
 use Rattle.model.specs.Rows.{nameIn, changeIn, rowAt, ancestors}
 use Rattle.model.specs.Fine.{entryTests, lineTests, rowTests, fineTarget, fineOption, fineLoose, finePacked, fineEntry, fineLine, fineParent, fineRow, apartNames, apartRows}
-use Rattle.model.specs.Fine.{Upward, nameRules, rowRules, fineNames, fineLines, fineRows}
+use Rattle.model.specs.Fine.{Upward, fineNames, fineLines, fineRows}
 use Rattle.model.proofs.Climbs.{ancestors-none, ancestors-up, falls}
 use Rattle.slots.specs.Row.{FitsRow}
 use Rattle.region.specs.Region.{view, Laid}
 use Rattle.region.proofs.Decode.{laid-image}
+use Rattle.rules.specs.Tests.{nameTest, lineTest, rowTest}
 
 -- ---- the loops: every number below i passes so far
 
@@ -114,27 +115,6 @@ module _ (s : Store) (n : NameNumber) (name : List ℕ) (b : Bool) (e : name ≡
         let z : finePacked (entryOf s n .name) (entryOf s n .packed) ≡ d = ap₂ finePacked (sym e) (sym i) ∙ sym j in
         rw (x, y, z) (sym (and-true d))
 
--- a name for the test of one entry, so that a search finds the store
-unfoldable pub entryTest : Store → ℕ → Bool
-entryTest s n = fineEntry (count s) (entryAt s n)
-
-module _ (s : Store) (i : ℕ) (n : NameNumber) (b : Bool) (q : n ≡ record { 0 = i }) (f : b ≡ fineEntry (count s) (entryOf s n)) where
-  entry-is : b ≡ entryTest s i
-  unfolding entryTest
-  entry-is = f ∙ ap (λ (n : NameNumber). fineEntry (count s) (entryOf s n)) q
-
-  pub entry-more : below i (entryTest s) ≡ true → b ≡ true → below (i + 1) (entryTest s) ≡ true
-  entry-more h t = loop-more i (entryTest s) b h entry-is t
-
-  pub entry-stop : (m : ℕ) → i < m → m ≡ count s → b ≡ false → false ≡ below (count s) (λ n. fineEntry (count s) (entryAt s n))
-  unfolding entryTest
-  entry-stop m h g t = loop-stop i m (count s) (entryTest s) b h g entry-is t
-
-pub entry-end : (s : Store) (i m : ℕ) → below i (entryTest s) ≡ true → i ≤ m → m ≤ i → m ≡ count s
-    → true ≡ below (count s) (λ n. fineEntry (count s) (entryAt s n))
-unfolding entryTest
-entry-end s i m h a b q = loop-end i m (count s) (entryTest s) h a b q
-
 -- ---- names are apart
 
 module _ (s : Store) (n m : ℕ) (x y : NameNumber) (a b : List ℕ) (t : Bool) (f : x ≡ record { 0 = n }) (g : y ≡ record { 0 = m })
@@ -166,26 +146,9 @@ line-rest n l k e h g p q c m =
     let i : isId (l .new .0) ≡ true = sym (is-id (l .new .0) q) ∙ rw (ne-eqb (l .new .0) 0 g) in
     rw (lt-ltb _ _ (rw e at h), lt-ltb _ _ (p .fits), i, lt-ltb _ _ (c .fits), lt-ltb _ _ (m .fits)) (positive (l .committer) ∙ sym (and-true (ltb 0 (l .committer))))
 
--- a name for the test of one line, so that a search finds the store
-unfoldable pub lineTest : Store → ℕ → Bool
-lineTest s i = fineLine (count s) (getD (s .lines) i noLine)
-
-module _ (s : Store) (i k : ℕ) (l : Line) (b : Bool) (q : k ≡ count s) (e : l ≡ getD (s .lines) i noLine) (f : b ≡ fineLine k l) where
-  line-is : b ≡ lineTest s i
-  unfolding lineTest
-  line-is = f ∙ ap₂ fineLine q e
-
-  pub line-more : below i (lineTest s) ≡ true → b ≡ true → below (i + 1) (lineTest s) ≡ true
-  line-more h t = loop-more i (lineTest s) b h line-is t
-
-  pub line-stop : (m : ℕ) → i < m → m ≡ length (s .lines) → b ≡ false → false ≡ below (length (s .lines)) (λ i. fineLine (count s) (getD (s .lines) i noLine))
-  unfolding lineTest
-  line-stop m h g t = loop-stop i m (length (s .lines)) (lineTest s) b h g line-is t
-
-pub line-end : (s : Store) (i m : ℕ) → below i (lineTest s) ≡ true → i ≤ m → m ≤ i → m ≡ length (s .lines)
-    → true ≡ below (length (s .lines)) (λ i. fineLine (count s) (getD (s .lines) i noLine))
+line-is : (s : Store) (i k : ℕ) (l : Line) (b : Bool) → k ≡ count s → l ≡ getD (s .lines) i noLine → b ≡ fineLine k l → b ≡ lineTest s i
 unfolding lineTest
-line-end s i m h a b q = loop-end i m (length (s .lines)) (lineTest s) h a b q
+line-is s i k l b q e f = f ∙ ap₂ fineLine q e
 
 -- ---- rows
 
@@ -215,9 +178,11 @@ module _ (rows : List Edit) (i : ℕ) (row : Edit) (q : row ≡ rowAt rows i) wh
         (z ∙ ap suc (g .0) ∙ sym (ap length (ancestors-up rows i (i + 1) w (omega arith) p parent-of)), omega arith)
 
 -- the rows that passed have earlier parents, and so has one more whose parent was tested
-pub rows-upward : (n i : ℕ) (rows : List Edit) → below i (fineRow n rows) ≡ true → Upward i rows
-unfolding fineRow
-rows-upward n i rows h = record { up = λ k l. every-at (rowTests n rows k) 5 (below-true i (fineRow n rows) h k l) }
+pub rows-upward : (s : Store) (i : ℕ) → below i (rowTest s) ≡ true → Upward i (rowsIn (s .prepared))
+unfolding fineRow rowTest
+rows-upward s i h = record {
+  up = λ k l. every-at (rowTests (count s) (rowsIn (s .prepared)) k) 5 (both-true _ _ (below-true i (rowTest s) h k l) .0);
+}
 
 pub upward-more : (rows : List Edit) (i : ℕ) (row : Edit) (b : Bool) → Upward i rows → row ≡ rowAt rows i → b ≡ fineParent i (row .«parent_index»)
     → not b ≡ false → Upward (i + 1) rows
@@ -286,9 +251,6 @@ pub row-rest : (r : List ℕ) (k i j : ℕ) (row : Edit) (v w : OptionTarget) (b
 row-rest r k i j row v w b c d m l z q e p h t fv gv tv fw gw tw fd td g =
     row-rest-fits (count (view r)) k i (rowsIn (view r .prepared)) row q e j v w b c d m (laid-image r l .1 .row i z) p h t fv gv tv fw gw tw fd td (g .0)
 
-pub name-of-row : (row : Edit) (rows : List Edit) (i : ℕ) → row ≡ rowAt rows i → row .update .name ≡ nameIn (rowAt rows i)
-name-of-row row rows i e = ap nameIn e
-
 -- rows are apart
 module _ (rows : List Edit) (i j : ℕ) (a b : NameNumber) (t : Bool) (p : a ≡ nameIn (rowAt rows i)) (q : b ≡ nameIn (rowAt rows j))
     (e : t ≡ sameName a b) where
@@ -301,31 +263,79 @@ module _ (rows : List Edit) (i j : ℕ) (a b : NameNumber) (t : Bool) (p : a ≡
   pub apart-stop : j < i → t ≡ true → false ≡ below i (apartRows rows i)
   apart-stop h d = sym (below-false i (apartRows rows i) j h (same-rows ∙ ap not d))
 
--- ---- a group of rules: its bound holds of any region that is laid out so, then one test after the other
+-- ---- its own rules first, then apart from earlier ones
 
-one-more : (a b z : Bool) → a ≡ true → z ≡ b → z ≡ every (a ∷ b ∷ [])
-one-more a b z p e = rw p (e ∙ sym (and-true b))
+module _ (s : Store) (n : ℕ) (x : NameNumber) (a : Bool) (q : x ≡ record { 0 = n }) (e : a ≡ fineEntry (count s) (entryOf s x)) where
+  entry-is : fineEntry (count s) (entryAt s n) ≡ a
+  entry-is = ap (λ (x : NameNumber). fineEntry (count s) (entryOf s x)) (sym q) ∙ sym e
+
+  pub name-entry : not a ≡ true → false ≡ nameTest s n
+  unfolding nameTest
+  name-entry t = rw (entry-is ∙ not-true a t)
+
+  pub name-rest : not a ≡ false → (z : Bool) → z ≡ below n (apartNames s n) → z ≡ nameTest s n
+  unfolding nameTest
+  name-rest t z f = rw (entry-is ∙ not-false a t) f
+
+module _ (s : Store) (i : ℕ) (a : Bool) (e : a ≡ fineRow (count s) (rowsIn (s .prepared)) i) where
+  pub row-own : not a ≡ true → false ≡ rowTest s i
+  unfolding rowTest
+  row-own t = rw (sym e ∙ not-true a t)
+
+  pub row-other : not a ≡ false → (z : Bool) → z ≡ below i (apartRows (rowsIn (s .prepared)) i) → z ≡ rowTest s i
+  unfolding rowTest
+  row-other t z f = rw (sym e ∙ not-false a t) f
+
+-- ---- a group of rules: its bound holds of any region that is laid out so, and the loop tests the others side by side
+
+cross : (a b c d : Bool) → (a && b) && (c && d) ≡ (a && c) && (b && d)
+cross true true c d = refl
+cross true false c d = sym (and-false c)
+cross false b c d = refl
+
+both-below : (n : ℕ) (p q : ℕ → Bool) → below n (λ i. p i && q i) ≡ below n p && below n q
+unfolding below
+both-below zero p q = refl
+both-below (suc n) p q = ap (λ (b : Bool). b && (p n && q n)) (both-below n p q) ∙ cross (below n p) (below n q) (p n) (q n)
+
+group : (n k : ℕ) (p q : ℕ → Bool) → n ≤ k → below n (λ i. p i && q i) ≡ every (leb n k ∷ below n p ∷ below n q ∷ [])
+group n k p q h = rw (le-leb n k h, and-true (below n q)) (both-below n p q)
 
 module _ (r : List ℕ) (l : Laid r) where
-  module _ (a : Bool) (e : a ≡ below (count (view r)) (λ n. fineEntry (count (view r)) (entryAt (view r) n))) where
-    pub names-entries : not a ≡ true → false ≡ fineNames (view r)
-    unfolding fineNames
-    names-entries t = sym (every-false (nameRules (view r)) 1 (sym e ∙ not-true a t))
+  names-all : below (count (view r)) (nameTest (view r)) ≡ fineNames (view r)
+  unfolding fineNames nameTest
+  names-all =
+      group (count (view r)) 256 (λ n. fineEntry (count (view r)) (entryAt (view r) n)) (λ n. below n (apartNames (view r) n)) (l .names)
 
-    pub names-rest : (z : Bool) → not a ≡ false → z ≡ below (count (view r)) (λ n. below n (apartNames (view r) n)) → z ≡ fineNames (view r)
-    unfolding fineNames
-    names-rest z t f = rw (le-leb _ _ (l .names)) (one-more _ _ z (sym e ∙ not-false a t) f)
+  lines-all : below (length (view r .lines)) (lineTest (view r)) ≡ fineLines (view r)
+  unfolding fineLines lineTest
+  lines-all = rw (le-leb _ _ (l .lines)) (sym (and-true _))
 
-  pub lines-rest : (z : Bool) → z ≡ below (length (view r .lines)) (λ i. fineLine (count (view r)) (getD (view r .lines) i noLine)) → z ≡ fineLines (view r)
-  unfolding fineLines
-  lines-rest z f = one-more _ _ z (le-leb _ _ (l .lines)) f
+  rows-all : below (length (rowsIn (view r .prepared))) (rowTest (view r)) ≡ fineRows (view r)
+  unfolding fineRows rowTest
+  rows-all =
+      group (length (rowsIn (view r .prepared))) 160 (fineRow (count (view r)) (rowsIn (view r .prepared))) (λ i. below i (apartRows (rowsIn (view r .prepared)) i))
+      (l .rows)
 
-  module _ (a : Bool) (e : a ≡ below (length (rowsIn (view r .prepared))) (fineRow (count (view r)) (rowsIn (view r .prepared)))) where
-    pub rows-tests : not a ≡ true → false ≡ fineRows (view r)
-    unfolding fineRows
-    rows-tests t = sym (every-false (rowRules (view r)) 1 (sym e ∙ not-true a t))
+  module _ (i m : ℕ) where
+    pub names-stop : (b : Bool) → i < m → m ≡ count (view r) → b ≡ nameTest (view r) i → b ≡ false → false ≡ fineNames (view r)
+    names-stop b h q e t = loop-stop i m (count (view r)) (nameTest (view r)) b h q e t ∙ names-all
 
-    pub rows-rest : (z : Bool) → not a ≡ false → z ≡ below (length (rowsIn (view r .prepared))) (λ i. below i (apartRows (rowsIn (view r .prepared)) i))
-        → z ≡ fineRows (view r)
-    unfolding fineRows
-    rows-rest z t f = rw (le-leb _ _ (l .rows)) (one-more _ _ z (sym e ∙ not-false a t) f)
+    pub names-end : below i (nameTest (view r)) ≡ true → i ≤ m → m ≤ i → m ≡ count (view r) → true ≡ fineNames (view r)
+    names-end h a b q = loop-end i m (count (view r)) (nameTest (view r)) h a b q ∙ names-all
+
+    pub lines-end : below i (lineTest (view r)) ≡ true → i ≤ m → m ≤ i → m ≡ length (view r .lines) → true ≡ fineLines (view r)
+    lines-end h a b q = loop-end i m (length (view r .lines)) (lineTest (view r)) h a b q ∙ lines-all
+
+    pub rows-stop : (b : Bool) → i < m → m ≡ length (rowsIn (view r .prepared)) → b ≡ rowTest (view r) i → b ≡ false → false ≡ fineRows (view r)
+    rows-stop b h q e t = loop-stop i m (length (rowsIn (view r .prepared))) (rowTest (view r)) b h q e t ∙ rows-all
+
+    pub rows-end : below i (rowTest (view r)) ≡ true → i ≤ m → m ≤ i → m ≡ length (rowsIn (view r .prepared)) → true ≡ fineRows (view r)
+    rows-end h a b q = loop-end i m (length (rowsIn (view r .prepared))) (rowTest (view r)) h a b q ∙ rows-all
+
+    module _ (k : ℕ) (x : Line) (b : Bool) (q : k ≡ count (view r)) (e : x ≡ getD (view r .lines) i noLine) (f : b ≡ fineLine k x) where
+      pub line-more : below i (lineTest (view r)) ≡ true → b ≡ true → below (i + 1) (lineTest (view r)) ≡ true
+      line-more h t = loop-more i (lineTest (view r)) b h (line-is (view r) i k x b q e f) t
+
+      pub lines-stop : i < m → m ≡ length (view r .lines) → b ≡ false → false ≡ fineLines (view r)
+      lines-stop h g t = loop-stop i m (length (view r .lines)) (lineTest (view r)) b h g (line-is (view r) i k x b q e f) t ∙ lines-all

@@ -1,13 +1,14 @@
 // The rules of a store, tested through the region's accessors: names and values, lines, rows.
 ghost use mathlib.Core.Path.{_≡_};
 ghost use Prim.Native.Nat.{_+_, _<_, _≤_};
-ghost use lib.ListN.{length, getD};
+ghost use lib.ListN.{length};
 ghost use Rattle.model.specs.Basic.{below};
-ghost use Rattle.model.specs.Store.{count, entryAt, entryOf, rowsIn, noLine};
-ghost use Rattle.model.specs.Rows.{ancestors, nameIn, rowAt};
+ghost use Rattle.model.specs.Store.{count, entryOf, rowsIn};
+ghost use Rattle.model.specs.Rows.{ancestors};
 ghost use Rattle.model.specs.Fine.{fineTarget, fineOption, fineLoose, finePacked, fineEntry, fineLine, fineParent, fineRow, apartNames, apartRows};
 ghost use Rattle.model.specs.Fine.{Upward, fineNames, fineLines, fineRows};
 ghost use Rattle.region.specs.Region.{view, Laid};
+ghost use Rattle.rules.specs.Tests.{nameTest, rowTest};
 use model::Line;
 use model::Loose;
 use model::Packed;
@@ -78,23 +79,6 @@ fn entry_ok(region: &[u8], n: NameNumber) -> bool
     packed_ok(name, region::packed_at(region, n))
 }
 
-fn entries_ok(region: &[u8]) -> bool
-    requires { ⌜ Laid (now region) ⌝ }
-    ensures { λ r. ⌜ r ≡ below (count (view (now (region .entry)))) (λ n. fineEntry (count (view (now (region .entry)))) (entryAt (view (now (region .entry))) n)) ⌝ }
-{
-    let count = region::count_names(region);
-    let mut n: usize = 0;
-    while n < count {
-        let ok = entry_ok(region, NameNumber::at(n));
-        if ok {
-            n += 1;
-        } else {
-            return false;
-        }
-    }
-    true
-}
-
 // No earlier name has the same bytes.
 fn name_apart(region: &[u8], n: usize) -> bool
     requires { ⌜ Laid (now region) ⌝ }
@@ -114,14 +98,25 @@ fn name_apart(region: &[u8], n: usize) -> bool
     true
 }
 
-fn names_apart(region: &[u8]) -> bool
+fn name_ok(region: &[u8], n: usize) -> bool
     requires { ⌜ Laid (now region) ⌝ }
-    ensures { λ r. ⌜ r ≡ below (count (view (now (region .entry)))) (λ n. below n (apartNames (view (now (region .entry))) n)) ⌝ }
+    requires { ⌜ n < count (view (now region)) ⌝ }
+    ensures { λ r. ⌜ r ≡ nameTest (view (now (region .entry))) n ⌝ }
+{
+    if !entry_ok(region, NameNumber::at(n)) {
+        return false;
+    }
+    name_apart(region, n)
+}
+
+pub fn names_fine(region: &[u8]) -> bool
+    requires { ⌜ Laid (now region) ⌝ }
+    ensures { λ r. ⌜ r ≡ fineNames (view (now (region .entry))) ⌝ }
 {
     let count = region::count_names(region);
     let mut n: usize = 0;
     while n < count {
-        let ok = name_apart(region, n);
+        let ok = name_ok(region, n);
         if ok {
             n += 1;
         } else {
@@ -147,9 +142,9 @@ fn line_ok(n: usize, l: Line) -> bool
     l.committer != 0
 }
 
-fn lines_ok(region: &[u8]) -> bool
+pub fn lines_fine(region: &[u8]) -> bool
     requires { ⌜ Laid (now region) ⌝ }
-    ensures { λ r. ⌜ r ≡ below (length (view (now (region .entry)) .lines)) (λ i. fineLine (count (view (now (region .entry)))) (getD (view (now (region .entry)) .lines) i noLine)) ⌝ }
+    ensures { λ r. ⌜ r ≡ fineLines (view (now (region .entry))) ⌝ }
 {
     let count = region::count_names(region);
     let lines = region::count_lines(region);
@@ -222,33 +217,16 @@ fn row_ok(region: &[u8], i: usize) -> bool
     count_ancestors(region, i) <= Edit::ANCESTORS
 }
 
-fn rows_ok(region: &[u8]) -> bool
-    requires { ⌜ Laid (now region) ⌝ }
-    ensures { λ r. ⌜ r ≡ below (length (rowsIn (view (now (region .entry)) .prepared))) (fineRow (count (view (now (region .entry)))) (rowsIn (view (now (region .entry)) .prepared))) ⌝ }
-{
-    let rows = region::count_rows(region);
-    let mut i: usize = 0;
-    while i < rows {
-        let ok = row_ok(region, i);
-        if ok {
-            i += 1;
-        } else {
-            return false;
-        }
-    }
-    true
-}
-
 // No earlier row has the same name.
 fn row_apart(region: &[u8], i: usize) -> bool
     requires { ⌜ Laid (now region) ⌝ }
     requires { ⌜ i < length (rowsIn (view (now region) .prepared)) ⌝ }
     ensures { λ r. ⌜ r ≡ below i (apartRows (rowsIn (view (now (region .entry)) .prepared)) i) ⌝ }
 {
-    let name = row_name(region, i);
+    let name = region::row_name(region, i);
     let mut j: usize = 0;
     while j < i {
-        let same = name.eq(row_name(region, j));
+        let same = name.eq(region::row_name(region, j));
         if same {
             return false;
         } else {
@@ -258,24 +236,26 @@ fn row_apart(region: &[u8], i: usize) -> bool
     true
 }
 
-fn row_name(region: &[u8], i: usize) -> NameNumber
+fn row_stands(region: &[u8], i: usize) -> bool
     requires { ⌜ Laid (now region) ⌝ }
     requires { ⌜ i < length (rowsIn (view (now region) .prepared)) ⌝ }
-    ensures { λ r. ⌜ r ≡ nameIn (rowAt (rowsIn (view (now (region .entry)) .prepared)) i) ⌝ }
+    requires { ⌜ Upward i (rowsIn (view (now region) .prepared)) ⌝ }
+    ensures { λ r. ⌜ r ≡ rowTest (view (now (region .entry))) i ⌝ }
 {
-    let row = region::row_at(region, i);
-    let update = row.update;
-    update.name
+    if !row_ok(region, i) {
+        return false;
+    }
+    row_apart(region, i)
 }
 
-fn rows_apart(region: &[u8]) -> bool
+pub fn rows_fine(region: &[u8]) -> bool
     requires { ⌜ Laid (now region) ⌝ }
-    ensures { λ r. ⌜ r ≡ below (length (rowsIn (view (now (region .entry)) .prepared))) (λ i. below i (apartRows (rowsIn (view (now (region .entry)) .prepared)) i)) ⌝ }
+    ensures { λ r. ⌜ r ≡ fineRows (view (now (region .entry))) ⌝ }
 {
     let rows = region::count_rows(region);
     let mut i: usize = 0;
     while i < rows {
-        let ok = row_apart(region, i);
+        let ok = row_stands(region, i);
         if ok {
             i += 1;
         } else {
@@ -283,33 +263,4 @@ fn rows_apart(region: &[u8]) -> bool
         }
     }
     true
-}
-
-// ---- the rules in their groups; locks and room are crate kept's
-
-pub fn names_fine(region: &[u8]) -> bool
-    requires { ⌜ Laid (now region) ⌝ }
-    ensures { λ r. ⌜ r ≡ fineNames (view (now (region .entry))) ⌝ }
-{
-    if !entries_ok(region) {
-        return false;
-    }
-    names_apart(region)
-}
-
-pub fn lines_fine(region: &[u8]) -> bool
-    requires { ⌜ Laid (now region) ⌝ }
-    ensures { λ r. ⌜ r ≡ fineLines (view (now (region .entry))) ⌝ }
-{
-    lines_ok(region)
-}
-
-pub fn rows_fine(region: &[u8]) -> bool
-    requires { ⌜ Laid (now region) ⌝ }
-    ensures { λ r. ⌜ r ≡ fineRows (view (now (region .entry))) ⌝ }
-{
-    if !rows_ok(region) {
-        return false;
-    }
-    rows_apart(region)
 }

@@ -3,8 +3,8 @@ use Rattle.kept.proofs.Says.{opens-not, opens-update, opens-last}
 use Rattle.kept.proofs.opens_table.Statement.{statement}
 use Rattle.kept.proofs.opens_table.Tie as tie
 
-any-counts-requires : tie.Need-any-counts-requires
-any-counts-requires c κs = search needs
+any-counting-requires : tie.Need-any-counting-requires
+any-counting-requires c κs = search needs
 
 returns : tie.Need-returns
 returns c = search opens-not
@@ -25,7 +25,7 @@ pub opens-table-spec : {M : Type 1} → statement M
 opens-table-spec =
     tie.close
     (tie.spec
-    any-counts-requires
+    any-counting-requires
     returns
     packs-update-requires
     returns-2

@@ -12,12 +12,12 @@ number-requires c κs = search needs
 returns : tie.Need-returns
 returns c = search packs-not
 
-any-update-counts-requires : tie.Need-any-update-counts-requires
-any-update-counts-requires c κs = search needs
+any-counting-requires : tie.Need-any-counting-requires
+any-counting-requires c κs = search needs
 
 returns-2 : tie.Need-returns-2
 returns-2 c = search packs-last
 
 pub packs-update-spec : {M : Type 1} → statement M
 packs-update-spec =
-    tie.close (tie.spec mode-requires number-requires returns any-update-counts-requires returns-2)
+    tie.close (tie.spec mode-requires number-requires returns any-counting-requires returns-2)

@@ -6,8 +6,8 @@ use Rattle.names.proofs.is_component.Tie as tie
 returns : tie.Need-returns
 returns c = search component-none
 
-all-component-bytes-requires : tie.Need-all-component-bytes-requires
-all-component-bytes-requires c κs = search needs
+all-bytes-requires : tie.Need-all-bytes-requires
+all-bytes-requires c κs = search needs
 
 returns-2 : tie.Need-returns-2
 returns-2 c = search component-byte
@@ -35,7 +35,7 @@ is-component-spec =
     tie.close
     (tie.spec
     returns
-    all-component-bytes-requires
+    all-bytes-requires
     returns-2
     slice-aggregate-begins-with
     begins-with-requires

@@ -9,17 +9,17 @@ returns c = search special-none
 shared-slice-read-if2 : tie.Need-shared-slice-read-if2
 shared-slice-read-if2 c = search needs
 
-sub-all-upper : tie.Need-sub-all-upper
-sub-all-upper c = search needs
+sub-all-bytes : tie.Need-sub-all-bytes
+sub-all-bytes c = search needs
 
-part-all-upper-start : tie.Need-part-all-upper-start
-part-all-upper-start c = search needs
+part-all-bytes-start : tie.Need-part-all-bytes-start
+part-all-bytes-start c = search needs
 
-part-all-upper-end : tie.Need-part-all-upper-end
-part-all-upper-end c = search needs
+part-all-bytes-end : tie.Need-part-all-bytes-end
+part-all-bytes-end c = search needs
 
-all-upper-requires : tie.Need-all-upper-requires
-all-upper-requires c κs = search needs
+all-bytes-requires : tie.Need-all-bytes-requires
+all-bytes-requires c κs = search needs
 
 returns-2 : tie.Need-returns-2
 returns-2 c = search special-rest
@@ -36,10 +36,10 @@ is-special-spec =
     (tie.spec
     returns
     shared-slice-read-if2
-    sub-all-upper
-    part-all-upper-start
-    part-all-upper-end
-    all-upper-requires
+    sub-all-bytes
+    part-all-bytes-start
+    part-all-bytes-end
+    all-bytes-requires
     returns-2
     returns-3
     returns-4)

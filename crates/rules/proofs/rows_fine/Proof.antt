@@ -1,19 +1,56 @@
-use Rattle.rules.proofs.Laws.{rows-tests, rows-rest}
+use native.Mathlib.Omega.{arith}
+use mathlib.Core.Bool.{true}
+use mathlib.Core.Path.{_≡_}
+use Prim.Native.Nat.{_-_, _≤_}
+use Rattle.model.specs.Basic.{below}
+use Rattle.region.specs.Region.{view}
+use Rattle.rules.specs.Tests.{rowTest}
+use Rattle.rules.proofs.Laws.{loop-none, loop-more, rows-upward, rows-stop, rows-end}
 use borrow.Author.Needs.{needs}
 use Rattle.rules.proofs.rows_fine.Statement.{statement}
 use Rattle.rules.proofs.rows_fine.Tie as tie
 
-rows-ok-requires : tie.Need-rows-ok-requires
-rows-ok-requires c κs = search needs
+abbrev Inv-loop : tie.InvT-loop
+Inv-loop region m i₀ i = (i ≤ m) × (below i (rowTest (view region)) ≡ true)
 
-returns : tie.Need-returns
-returns c = search rows-tests
+abbrev μ-loop : tie.MeasureT-loop
+μ-loop region m i₀ i = m - i
 
-rows-apart-requires : tie.Need-rows-apart-requires
-rows-apart-requires c κs = search needs
+count-rows-requires : tie.Need-count-rows-requires Inv-loop μ-loop
+count-rows-requires c κs = search needs
 
-returns-2 : tie.Need-returns-2
-returns-2 c = search rows-rest
+loop-holds : tie.Need-loop-holds Inv-loop μ-loop
+loop-holds c = (omega arith, loop-none _)
+
+row-stands-requires : tie.Need-row-stands-requires Inv-loop μ-loop
+row-stands-requires c κs = (search needs, (search needs, search rows-upward))
+
+add-i : tie.Need-add-i Inv-loop μ-loop
+add-i c = search needs
+
+loop-less : tie.Need-loop-less Inv-loop μ-loop
+loop-less c = search needs
+
+loop-again : tie.Need-loop-again Inv-loop μ-loop
+loop-again c = (omega arith, search loop-more)
+
+returns : tie.Need-returns Inv-loop μ-loop
+returns c = search rows-stop
+
+returns-2 : tie.Need-returns-2 Inv-loop μ-loop
+returns-2 c = search rows-end
 
 pub rows-fine-spec : {M : Type 1} → statement M
-rows-fine-spec = tie.close (tie.spec rows-ok-requires returns rows-apart-requires returns-2)
+rows-fine-spec =
+    tie.close
+    (tie.spec
+    Inv-loop
+    μ-loop
+    count-rows-requires
+    loop-holds
+    row-stands-requires
+    add-i
+    loop-less
+    loop-again
+    returns
+    returns-2)

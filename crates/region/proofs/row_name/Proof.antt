@@ -1,7 +1,7 @@
-use Rattle.rules.proofs.Laws.{name-of-row}
+use Rattle.region.proofs.Read.{name-of-row}
 use borrow.Author.Needs.{needs}
-use Rattle.rules.proofs.row_name.Statement.{statement}
-use Rattle.rules.proofs.row_name.Tie as tie
+use Rattle.region.proofs.row_name.Statement.{statement}
+use Rattle.region.proofs.row_name.Tie as tie
 
 row-at-requires : tie.Need-row-at-requires
 row-at-requires c κs = search needs

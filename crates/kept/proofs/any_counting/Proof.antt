@@ -5,16 +5,16 @@ use lib.ListN.{drop}
 use Rattle.region.specs.Region.{view}
 use Rattle.model.specs.Basic.{any}
 use Rattle.model.specs.Store.{rowsIn}
-use Rattle.model.specs.Rows.{counts}
+use Rattle.kept.specs.Counting.{counting}
 use Rattle.rows.proofs.Laws.{any-more, any-here, any-end}
-use Rattle.kept.proofs.any_counts.Statement.{statement}
-use Rattle.kept.proofs.any_counts.Tie as tie
+use Rattle.kept.proofs.any_counting.Statement.{statement}
+use Rattle.kept.proofs.any_counting.Tie as tie
 
 abbrev Inv-loop : tie.InvT-loop
-Inv-loop region rows i₀ i = any (counts (view region)) (drop i (rowsIn (view region .prepared))) ≡ any (counts (view region)) (rowsIn (view region .prepared))
+Inv-loop region update rows i₀ i = any (counting update (view region)) (drop i (rowsIn (view region .prepared))) ≡ any (counting update (view region)) (rowsIn (view region .prepared))
 
 abbrev μ-loop : tie.MeasureT-loop
-μ-loop region rows i₀ i = rows - i
+μ-loop region update rows i₀ i = rows - i
 
 count-rows-requires : tie.Need-count-rows-requires Inv-loop μ-loop
 count-rows-requires c κs = search needs
@@ -25,8 +25,8 @@ loop-holds c = refl
 row-at-requires : tie.Need-row-at-requires Inv-loop μ-loop
 row-at-requires c κs = search needs
 
-counts-row-requires : tie.Need-counts-row-requires Inv-loop μ-loop
-counts-row-requires c κs = search needs
+is-counting-requires : tie.Need-is-counting-requires Inv-loop μ-loop
+is-counting-requires c κs = search needs
 
 returns : tie.Need-returns Inv-loop μ-loop
 returns c = search any-here
@@ -43,8 +43,8 @@ loop-again c = search any-more
 returns-2 : tie.Need-returns-2 Inv-loop μ-loop
 returns-2 c = search any-end
 
-pub any-counts-spec : {M : Type 1} → statement M
-any-counts-spec =
+pub any-counting-spec : {M : Type 1} → statement M
+any-counting-spec =
     tie.close
     (tie.spec
     Inv-loop
@@ -52,7 +52,7 @@ any-counts-spec =
     count-rows-requires
     loop-holds
     row-at-requires
-    counts-row-requires
+    is-counting-requires
     returns
     add-i
     loop-less

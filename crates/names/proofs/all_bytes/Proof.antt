@@ -3,25 +3,25 @@ use lib.ListN.{length, drop}
 use mathlib.Core.Path.{_≡_, refl}
 use Prim.Native.Nat.{_-_}
 use Rattle.model.specs.Basic.{all}
-use Rattle.model.specs.Names.{isComponentByte}
+use Rattle.names.specs.Parts.{isByteOf}
 use Rattle.names.proofs.Components.{all-stop, all-more, all-end}
-use Rattle.names.proofs.all_component_bytes.Statement.{statement}
-use Rattle.names.proofs.all_component_bytes.Tie as tie
+use Rattle.names.proofs.all_bytes.Statement.{statement}
+use Rattle.names.proofs.all_bytes.Tie as tie
 
 abbrev Inv-loop : tie.InvT-loop
-Inv-loop bytes i₀ i = all isComponentByte (drop i bytes) ≡ all isComponentByte bytes
+Inv-loop component bytes i₀ i = all (isByteOf component) (drop i bytes) ≡ all (isByteOf component) bytes
 
 abbrev μ-loop : tie.MeasureT-loop
-μ-loop bytes i₀ i = length bytes - i
+μ-loop component bytes i₀ i = length bytes - i
 
 loop-holds : tie.Need-loop-holds Inv-loop μ-loop
 loop-holds c = refl
 
-shared-slice-read-is-component-byte : tie.Need-shared-slice-read-is-component-byte Inv-loop μ-loop
-shared-slice-read-is-component-byte c = search needs
+shared-slice-read-is-byte-of : tie.Need-shared-slice-read-is-byte-of Inv-loop μ-loop
+shared-slice-read-is-byte-of c = search needs
 
-is-component-byte-requires : tie.Need-is-component-byte-requires Inv-loop μ-loop
-is-component-byte-requires c κs = search needs
+is-byte-of-requires : tie.Need-is-byte-of-requires Inv-loop μ-loop
+is-byte-of-requires c κs = search needs
 
 add-i : tie.Need-add-i Inv-loop μ-loop
 add-i c = search needs
@@ -38,15 +38,15 @@ returns c = search all-stop
 returns-2 : tie.Need-returns-2 Inv-loop μ-loop
 returns-2 c = search all-end
 
-pub all-component-bytes-spec : {M : Type 1} → statement M
-all-component-bytes-spec =
+pub all-bytes-spec : {M : Type 1} → statement M
+all-bytes-spec =
     tie.close
     (tie.spec
     Inv-loop
     μ-loop
     loop-holds
-    shared-slice-read-is-component-byte
-    is-component-byte-requires
+    shared-slice-read-is-byte-of
+    is-byte-of-requires
     add-i
     loop-less
     loop-again
