@@ -4,7 +4,6 @@ use mathlib.Core.Bool.{Bool, true, false, cond}
 use mathlib.Core.List.{List, [], _∷_, _++_, map}
 use Prim.Native.Nat.{ℕ, _+_}
 use lib.ListN.{set, drop}
-use Rattle.target.specs.declared.NameNumber.{NameNumber}
 use Rattle.target.specs.declared.OptionName.{OptionName}
 use Rattle.target.specs.declared.OptionName.the-variants.{NoName, Name}
 use Rattle.transaction.specs.declared.RefEdit.{RefEdit}

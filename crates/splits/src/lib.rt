@@ -253,16 +253,6 @@ pub fn extend_with_splits_of_symbolic_refs(region: &mut [u8], list: &[u8]) -> Ju
 
 // ---- 6: two rows, one name
 
-fn row_name(region: &[u8], i: usize) -> NameNumber
-    requires { ⌜ Laid (now region) ⌝ }
-    requires { ⌜ i < length (rowsIn (view (now region) .prepared)) ⌝ }
-    ensures { λ r. ⌜ r ≡ nameIn (rowAt (rowsIn (view (now (region .entry)) .prepared)) i) ⌝ }
-{
-    let row = region::row_at(region, i);
-    let update = row.update;
-    update.name
-}
-
 // The bytes of a name; a number that is not registered has none.
 fn bytes_of(region: &[u8], name: NameNumber) -> &[u8]
     requires { ⌜ Laid (now region) ⌝ }
@@ -296,7 +286,7 @@ fn stands_again(region: &[u8], name: NameNumber, i: usize) -> bool
     let rows = region::count_rows(region);
     let mut j = i;
     while j < rows {
-        let same = name.eq(row_name(region, j));
+        let same = name.eq(region::row_name(region, j));
         if same {
             return true;
         } else {
@@ -315,7 +305,7 @@ pub fn assure_one_name_has_one_edit(region: &[u8]) -> Judged
     let mut i = region::count_rows(region);
     while 0 < i {
         i -= 1;
-        let name = row_name(region, i);
+        let name = region::row_name(region, i);
         if stands_again(region, name, i + 1) {
             least = lesser_of(region, name, least);
         }
