@@ -6,7 +6,7 @@ use mathlib.Core.Option.{none, some}
 use Prim.Native.Nat.{ℕ, zero, suc, _+_, _≤_, _<_, _%_, _^_}
 use native.Mathlib.Omega.{arith}
 use lib.Dec.{eqb, leb}
-use borrow.Author.Tests.{eq-eqb, ne-eqb}
+use borrow.Author.Tests.{eq-eqb, ne-eqb, le-leb, lt-leb}
 use Rattle.word.specs.Be.{cut, val}
 use Rattle.word.specs.Codec.{isSome}
 use Rattle.target.specs.declared.NameNumber.{NameNumber}
@@ -43,15 +43,18 @@ use Rattle.edits.specs.Read.{targetLow, targetBy, expectedBy, changeBy, 
 use Rattle.edits.specs.Edits.{noEdit}
 use Rattle.edits.proofs.Model.{same-form}
 
+flag : (x : ℕ) → flagOf x ≡ cond (leb x 1) (some (eqb x 1)) none
+flag zero = refl
+flag (suc zero) = refl
+flag (suc (suc x)) =
+    let h : 1 < suc (suc x) = omega arith in
+    ap (λ (b : Bool). cond b (some (eqb (suc (suc x)) 1)) none) (sym (lt-leb (suc (suc x)) 1 h))
+
 flag-past : (x : ℕ) → 1 < x → flagOf x ≡ none
-flag-past zero h = absurd (omega arith)
-flag-past (suc zero) h = absurd (omega arith)
-flag-past (suc (suc x)) h = refl
+flag-past x h = flag x ∙ ap (λ (b : Bool). cond b (some (eqb x 1)) none) (lt-leb _ _ h)
 
 flag-is : (x : ℕ) → x ≤ 1 → flagOf x ≡ some (eqb x 1)
-flag-is zero h = refl
-flag-is (suc zero) h = refl
-flag-is (suc (suc x)) h = absurd (omega arith)
+flag-is x h = flag x ∙ ap (λ (b : Bool). cond b (some (eqb x 1)) none) (le-leb _ _ h)
 
 -- ---- targets
 

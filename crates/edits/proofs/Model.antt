@@ -21,11 +21,15 @@ use Rattle.transaction.specs.Fields.{refLogOf, refLogOption, previousOf, previo
 use Rattle.model.specs.EditList.{_>>=_, flagOf, targetOf, changeOf, byteAt, editOf}
 use Rattle.edits.specs.Read.{targetLow, targetBy, expectedBy, changeBy, editBy}
 
+-- two steps after a value are one
+assoc : {A B C : Type 0} (m : Option A) (f : A → Option B) (k : B → Option C) → (m >>= λ a. f a >>= k) ≡ ((m >>= f) >>= k)
+assoc none f k = refl
+assoc (some a) f k = refl
+
 later : {C D E F : Type 0} (x : Option D) (n : Option C) (c : D → C → Option E) (k : E → Option F)
     → (x >>= λ x. n >>= λ n. c x n >>= k) ≡ ((x >>= λ x. n >>= λ n. c x n) >>= k)
 later none n c k = refl
-later (some x) none c k = refl
-later (some x) (some n) c k = refl
+later (some x) n c k = assoc n (c x) k
 
 chain : {A B C D E F G : Type 0} (d : Option G) (l : Option A) (b : Option B) (w : Option C) (x : C → Option D) (n : Option C)
     (c : A → B → D → C → Option E) (k : G → E → Option F)

@@ -21,7 +21,9 @@ use Rattle.transaction.specs.Fields.{refLogOf, refLogOption, previousOf, previo
 use Rattle.model.specs.Basic.{collect, when}
 use Rattle.model.specs.EditList.{flagOf, targetOf, changeOf, byteAt, editOf, linkNumber, numbersOf, firstOut}
 use Rattle.model.proofs.Binds.{none-some, some-is, some-then, cond-some, cond-none}
+use Rattle.edits.specs.Read.{targetBy, expectedBy, changeBy, editBy}
 use Rattle.edits.specs.Edits.{noEdit, editIn}
+use Rattle.edits.proofs.Model.{edit-parts}
 
 -- ---- by the bytes
 
@@ -65,21 +67,26 @@ change-links (suc (suc (suc k))) log force p t m c e = absurd (none-some e)
 abbrev linkIn : ℕ → List ℕ → List ℕ
 linkIn a r = when (eqb (byteAt a r) 2) (val (cut (a + 1) 8 r))
 
-numbers-in : (r : List ℕ) (e : RefEdit) → editOf r ≡ some e → numbersOf e ≡ linkIn 5 r ++ (linkIn 14 r ++ (val (cut 23 2 r) ∷ []))
-unfolding editOf numbersOf
-numbers-in r e h =
-    some-then (flagOf (byteAt 1 r)) _ e h λ deref _ h₁.
-    some-then (refLogOption (refLogOf (byteAt 2 r))) _ e h₁ λ log _ h₂.
-    some-then (flagOf (byteAt 3 r)) _ e h₂ λ force _ h₃.
-    some-then (targetOf (byteAt 5 r) (val (cut 6 8 r))) _ e h₃ λ target p h₄.
-    some-then (previousOption (previousOf (byteAt 4 r) target)) _ e h₄ λ expected q h₅.
-    some-then (targetOf (byteAt 14 r) (val (cut 15 8 r))) _ e h₅ λ new n h₆.
-    some-then (changeOf (byteAt 0 r) log force expected new (val (cut 25 2 r))) _ e h₆ λ change c h₇.
-    ap (λ (x : RefEdit). links (x .change) ++ (x .name .0 ∷ [])) (sym (some-is h₇))
-    ∙ ap (λ (l : List ℕ). l ++ (val (cut 23 2 r) ∷ []))
-    (change-links (byteAt 0 r) log force expected new _ change c
+-- those of its change
+links-in : (r : List ℕ) (c : Change) → changeBy targetOf r ≡ some c → links c ≡ linkIn 5 r ++ linkIn 14 r
+unfolding changeBy expectedBy targetBy
+links-in r c h =
+    some-then (refLogOption (refLogOf (byteAt 2 r))) _ c h λ log _ h₁.
+    some-then (flagOf (byteAt 3 r)) _ c h₁ λ force _ h₂.
+    some-then (expectedBy targetOf r) _ c h₂ λ expected e h₃.
+    some-then (targetBy targetOf 14 r) _ c h₃ λ new n h₄.
+    some-then (targetBy targetOf 5 r) _ expected e λ target p q.
+    change-links (byteAt 0 r) log force expected new _ c h₄
     ∙ ap₂ (λ (a b : List ℕ). a ++ b) (expected-link (byteAt 4 r) target expected q ∙ target-link (byteAt 5 r) _ target p)
-    (target-link (byteAt 14 r) _ new n))
+    (target-link (byteAt 14 r) _ new n)
+
+numbers-in : (r : List ℕ) (e : RefEdit) → editOf r ≡ some e → numbersOf e ≡ linkIn 5 r ++ (linkIn 14 r ++ (val (cut 23 2 r) ∷ []))
+unfolding editBy numbersOf
+numbers-in r e h =
+    some-then (flagOf (byteAt 1 r)) _ e (sym (edit-parts r) ∙ h) λ deref _ h₁.
+    some-then (changeBy targetOf r) _ e h₁ λ change c h₂.
+    ap (λ (x : RefEdit). links (x .change) ++ (x .name .0 ∷ [])) (sym (some-is h₂))
+    ∙ ap (λ (l : List ℕ). l ++ (val (cut 23 2 r) ∷ [])) (links-in r change c)
     ∙ append-assoc (linkIn 5 r) (linkIn 14 r) (val (cut 23 2 r) ∷ [])
 
 -- ---- the first that is out

@@ -2,6 +2,7 @@
 use mathlib.Core.Path.{_≡_, refl, sym, ap, ap₂, _∙_}
 use mathlib.Core.Bool.{Bool, true, false, not, _&&_, cond, and-true}
 use mathlib.Core.List.{List, [], _∷_, _++_}
+use mathlib.Core.Option.{Option}
 use Prim.Native.Nat.{ℕ, _+_, _-_, _*_, _<_, _≤_}
 use native.Mathlib.Omega.{arith}
 use lib.ListN.{length, getD, drop, length-drop}
@@ -49,6 +50,10 @@ pass p q = ap₂ (λ (t u : Bool). t && u) p q
 
 -- ---- what a slot holds
 
+-- whether something was read, by the reader's own answer o
+told : {O A : Type 0} (option : O → Option A) (o q : O) (x : Option A) → option o ≡ x → o ≡ q → isSome (option q) ≡ isSome x
+told option o q x e h = ap (λ o. isSome (option o)) (sym h) ∙ ap isSome e
+
 module _ (s : List ℕ) where
   pub text-long : 64 < getD s 0 0 → false ≡ testText 64 s
   unfolding testText
@@ -67,55 +72,32 @@ module _ (s : List ℕ) where
       ∙ ap zeros (text-rest (getD s 0 0))
       ∙ ap (λ (t : Bool). t && zeros (drop (getD s 0 0) (drop 1 s))) (sym (le-leb _ _ h))
 
-  module _ (o : OptionLoose) (e : looseOption o ≡ looseIn s) where
-    pub loose-bad : o ≡ optionLoose.NoLoose → false ≡ isSome (looseIn s)
-    loose-bad q = ap (λ (o : OptionLoose). isSome (looseOption o)) (sym q) ∙ ap isSome e
+  pub loose-bad : (o : OptionLoose) → looseOption o ≡ looseIn s → o ≡ optionLoose.NoLoose → false ≡ isSome (looseIn s)
+  loose-bad o = told looseOption o _ _
 
-    pub loose-held : (v : Loose) → o ≡ optionLoose.Loose v → true ≡ isSome (looseIn s)
-    loose-held v q = ap (λ (o : OptionLoose). isSome (looseOption o)) (sym q) ∙ ap isSome e
+  pub loose-held : (o : OptionLoose) → looseOption o ≡ looseIn s → (v : Loose) → o ≡ optionLoose.Loose v → true ≡ isSome (looseIn s)
+  loose-held o e v = told looseOption o _ _ e
 
-  module _ (o : OptionLock) (e : lockOption o ≡ lockIn s) where
-    pub lock-bad : o ≡ optionLock.NoLock → false ≡ isSome (lockIn s)
-    lock-bad q = ap (λ (o : OptionLock). isSome (lockOption o)) (sym q) ∙ ap isSome e
+  pub lock-bad : (o : OptionLock) → lockOption o ≡ lockIn s → o ≡ optionLock.NoLock → false ≡ isSome (lockIn s)
+  lock-bad o = told lockOption o _ _
 
-    pub lock-held : (v : Lock) → o ≡ optionLock.Lock v → true ≡ isSome (lockIn s)
-    lock-held v q = ap (λ (o : OptionLock). isSome (lockOption o)) (sym q) ∙ ap isSome e
+  pub lock-held : (o : OptionLock) → lockOption o ≡ lockIn s → (v : Lock) → o ≡ optionLock.Lock v → true ≡ isSome (lockIn s)
+  lock-held o e v = told lockOption o _ _ e
 
-  module _ (o : OptionRow) (e : rowOption o ≡ rowIn s) where
-    pub row-bad : o ≡ NoRow → false ≡ isSome (rowIn s)
-    row-bad q = ap (λ (o : OptionRow). isSome (rowOption o)) (sym q) ∙ ap isSome e
+  pub row-bad : (o : OptionRow) → rowOption o ≡ rowIn s → o ≡ NoRow → false ≡ isSome (rowIn s)
+  row-bad o = told rowOption o _ _
 
-    pub row-held : (v : Edit) → o ≡ Row v → true ≡ isSome (rowIn s)
-    row-held v q = ap (λ (o : OptionRow). isSome (rowOption o)) (sym q) ∙ ap isSome e
+  pub row-held : (o : OptionRow) → rowOption o ≡ rowIn s → (v : Edit) → o ≡ Row v → true ≡ isSome (rowIn s)
+  row-held o e v = told rowOption o _ _ e
 
   -- ---- by its table
 
   module _ (t : Table) where
-    module _ (e : length s ≡ widthOf t) where
-      pub names-wide : t ≡ Names → length s ≡ nameWidth
-      names-wide q = e ∙ ap widthOf q
+    pub wide : (u : Table) → length s ≡ widthOf t → t ≡ u → length s ≡ widthOf u
+    wide u e q = e ∙ ap widthOf q
 
-      pub looses-wide : t ≡ Looses → length s ≡ looseWidth
-      looses-wide q = e ∙ ap widthOf q
-
-      pub locks-wide : t ≡ Locks → length s ≡ lockWidth
-      locks-wide q = e ∙ ap widthOf q
-
-      pub rows-wide : t ≡ Rows → length s ≡ rowWidth
-      rows-wide q = e ∙ ap widthOf q
-
-    module _ (b : Bool) where
-      pub names-held : t ≡ Names → b ≡ testText 64 s → b ≡ testOf t s
-      names-held q e = e ∙ ap (λ (t : Table). testOf t s) (sym q)
-
-      pub looses-held : t ≡ Looses → b ≡ isSome (looseIn s) → b ≡ testOf t s
-      looses-held q e = e ∙ ap (λ (t : Table). testOf t s) (sym q)
-
-      pub locks-held : t ≡ Locks → b ≡ isSome (lockIn s) → b ≡ testOf t s
-      locks-held q e = e ∙ ap (λ (t : Table). testOf t s) (sym q)
-
-      pub rows-held : t ≡ Rows → b ≡ isSome (rowIn s) → b ≡ testOf t s
-      rows-held q e = e ∙ ap (λ (t : Table). testOf t s) (sym q)
+    pub table-held : (u : Table) (b : Bool) → t ≡ u → b ≡ testOf u s → b ≡ testOf t s
+    table-held u b q e = e ∙ ap (λ (t : Table). testOf t s) (sym q)
 
   -- ---- held, or zeros
 

@@ -102,6 +102,3 @@ module _ (s : Store) (rows : List Edit) (k : ℕ) (ek : k ≡ length rows) (i : 
     leads-later e = rw (← eo, e) at (sym leads-at) ∙ w
 
 -- ---- the name in a row
-
-pub name-is : (rows : List Edit) (i : ℕ) (x : Edit) → x ≡ rowAt rows i → x .update .name ≡ nameIn (rowAt rows i)
-name-is rows i x e = ap nameIn e

@@ -1,5 +1,5 @@
 -- What each way through the judgement says of the definitions, and the row with an existing value in it. Assumes nothing.
-use mathlib.Core.Path.{_≡_, ap, _∙_}
+use mathlib.Core.Path.{_≡_, refl, ap, _∙_}
 use mathlib.Core.Bool.{Bool, true, false}
 use mathlib.Core.Option.{none, some}
 use Prim.Native.Nat.{ℕ}
@@ -40,6 +40,20 @@ module _ (n : NameNumber) (t u : Target) (b : Bool) where
   pub free-other : b ≡ same u t → b ≡ false → some (no.MustNotExist n u t) ≡ judgeUpdate n MustNotExist t (Present u)
   free-other e h = rw (← e, h)
 
+-- ---- what exists, if anything does, must match
+
+module _ (n : NameNumber) (t : Target) (x : OptionTarget) where
+  pub may-absent : x ≡ Absent → none ≡ judgeDelete n (ExistingMustMatch t) x
+  may-absent e = rw e
+
+  pub may-present : (u : Target) (r : Judged) → x ≡ Present u → judgedOption r ≡ mustMatch n t u → judgedOption r ≡ judgeDelete n (ExistingMustMatch t) x
+  may-present u r e h = rw e h
+
+-- whether it is deleted or updated
+may-both : (n : NameNumber) (t new : Target) (x : OptionTarget) → judgeDelete n (ExistingMustMatch t) x ≡ judgeUpdate n (ExistingMustMatch t) new x
+may-both n t new Absent = refl
+may-both n t new (Present u) = refl
+
 -- ---- a delete, by what is expected and what exists
 
 module _ (n : NameNumber) (p : PreviousValue) (x : OptionTarget) where
@@ -53,12 +67,12 @@ module _ (n : NameNumber) (p : PreviousValue) (x : OptionTarget) where
     pub delete-match-absent : p ≡ MustExistAndMatch t → x ≡ Absent → some (no.DeleteReferenceMustExist n) ≡ judgeDelete n p x
     delete-match-absent e f = rw (e, f)
 
-    module _ (u : Target) (r : Judged) where
-      pub delete-match : p ≡ MustExistAndMatch t → x ≡ Present u → judgedOption r ≡ mustMatch n t u → judgedOption r ≡ judgeDelete n p x
-      delete-match e f h = rw (e, f) h
+    module _ (r : Judged) where
+      pub delete-match : (u : Target) → p ≡ MustExistAndMatch t → x ≡ Present u → judgedOption r ≡ mustMatch n t u → judgedOption r ≡ judgeDelete n p x
+      delete-match u e f h = rw (e, f) h
 
-      pub delete-may : p ≡ ExistingMustMatch t → x ≡ Present u → judgedOption r ≡ mustMatch n t u → judgedOption r ≡ judgeDelete n p x
-      delete-may e f h = rw (e, f) h
+      pub delete-may : p ≡ ExistingMustMatch t → judgedOption r ≡ judgeDelete n (ExistingMustMatch t) x → judgedOption r ≡ judgeDelete n p x
+      delete-may e h = rw e h
 
 -- ---- an update
 
@@ -74,12 +88,12 @@ module _ (n : NameNumber) (p : PreviousValue) (new : Target) (x : OptionTarget) 
     pub update-match-absent : p ≡ MustExistAndMatch t → x ≡ Absent → some (no.MustExist n t) ≡ judgeUpdate n p new x
     update-match-absent e f = rw (e, f)
 
-    module _ (u : Target) (r : Judged) where
-      pub update-match : p ≡ MustExistAndMatch t → x ≡ Present u → judgedOption r ≡ mustMatch n t u → judgedOption r ≡ judgeUpdate n p new x
-      update-match e f h = rw (e, f) h
+    module _ (r : Judged) where
+      pub update-match : (u : Target) → p ≡ MustExistAndMatch t → x ≡ Present u → judgedOption r ≡ mustMatch n t u → judgedOption r ≡ judgeUpdate n p new x
+      update-match u e f h = rw (e, f) h
 
-      pub update-may : p ≡ ExistingMustMatch t → x ≡ Present u → judgedOption r ≡ mustMatch n t u → judgedOption r ≡ judgeUpdate n p new x
-      update-may e f h = rw (e, f) h
+      pub update-may : p ≡ ExistingMustMatch t → judgedOption r ≡ judgeDelete n (ExistingMustMatch t) x → judgedOption r ≡ judgeUpdate n p new x
+      update-may e h = rw e (h ∙ may-both n t new x)
 
 -- ---- either
 

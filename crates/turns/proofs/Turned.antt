@@ -97,6 +97,14 @@ pub under : (r : List ℕ) (i p : ℕ) (x : Edit) → Laid r → i < length (row
     → x .«parent_index» ≡ Parent p → Under r i p
 under r i p x l h w e k = record { laid = l; there = h; upward = w; parent = parent-here (rowsOf r) i x (Parent p) e k }
 
+-- a row that is there fits with another leaf-previous
+pub leaf-fits : (r : List ℕ) (i : ℕ) (o : ObjectNumber) (y up : Edit) → Laid r → i < length (rowsIn (view r .prepared))
+    → y ≡ rowAt (rowsIn (view r .prepared)) i → up ≡ withLeaf o y → o .0 < 2 ^ 64 → FitsRow up
+leaf-fits r i o y up l h ey eu k =
+    let f : FitsRow y = fits-at r l i y h ey in
+    subst FitsRow (sym eu)
+    (record { name = f .name; deref = f .deref; message = f .message; was = f .was; new = f .new; parent = f .parent; leaf = k })
+
 -- the leaf-previous is in the row at place p, up
 pub leafed : (r r₁ : List ℕ) (p : ℕ) (o : ObjectNumber) (y up : Edit) → y ≡ rowAt (rowsIn (view r .prepared)) p → up ≡ withLeaf o y
     → Became r₁ (withRows (view r) (set (rowsIn (view r .prepared)) p up))
@@ -110,12 +118,6 @@ module _ {r : List ℕ} {i p : ℕ} (u : Under r i p) where
 
   pub up-in : p < length (rowsIn (view r .prepared))
   up-in = let q : p < i = up-falls in let h : i < length (rowsOf r) = u .there in omega arith
-
-  pub up-fits : (o : ObjectNumber) (y up : Edit) → y ≡ rowAt (rowsIn (view r .prepared)) p → up ≡ withLeaf o y → o .0 < 2 ^ 64 → FitsRow up
-  up-fits o y up ey eu k =
-      let f : FitsRow y = fits-at r (u .laid) p y up-in ey in
-      subst FitsRow (sym eu)
-      (record { name = f .name; deref = f .deref; message = f .message; was = f .was; new = f .new; parent = f .parent; leaf = k })
 
   module _ (o : ObjectNumber) (r₁ : List ℕ)
       (b : Became r₁ (withRows (view r) (set (rowsIn (view r .prepared)) p (withLeaf o (rowAt (rowsIn (view r .prepared)) p))))) where
@@ -196,8 +198,13 @@ module _ (r : List ℕ) (i : ℕ) (opened : Bool) (row : Edit) (x : OptionTarget
         leaf = f .leaf;
       })
 
-  pub kept-is : kept ≡ observed (rowAt (rowsIn (view r .prepared)) i) (existing (view r) opened (rowAt (rowsIn (view r .prepared)) i))
+  kept-is : kept ≡ observed (rowAt (rowsIn (view r .prepared)) i) (existing (view r) opened (rowAt (rowsIn (view r .prepared)) i))
   kept-is = ek ∙ ap (observed row) ex ∙ ap (λ (r′ : Edit). observed r′ (existing (view r) opened r′)) er
+
+  pub kept-put : (r₁ : List ℕ) → Became r₁ (withRows (view r) (set (rowsIn (view r .prepared)) i kept))
+      → (kept ≡ observed (rowAt (rowsIn (view r .prepared)) i) (existing (view r) opened (rowAt (rowsIn (view r .prepared)) i)))
+      × Became r₁ (withRows (view r) (set (rowsIn (view r .prepared)) i kept))
+  kept-put r₁ b = (kept-is, b)
 
 -- the row kept is in the region
 module _ (r : List ℕ) (i : ℕ) (h : i < length (rowsIn (view r .prepared))) (opened : Bool) (kept : Edit)

@@ -2,12 +2,12 @@
 // (8, then 9 to 13), then what was found replaces what was expected, and its object goes to the row's ancestors.
 ghost use mathlib.Core.Path.{_≡_};
 ghost use Prim.Native.Nat.{_<_};
-ghost use lib.ListN.{length};
+ghost use lib.ListN.{length, set};
 ghost use Rattle.model.specs.Store.{entryOf, rowsIn, isLock, withRows};
-ghost use Rattle.model.specs.Rows.{ancestors, topmost};
+ghost use Rattle.model.specs.Rows.{rowAt, ancestors, topmost};
 ghost use Rattle.model.specs.Fine.{Upward};
 ghost use Rattle.model.specs.Judge.{mustMatch, judgeDelete, judgeUpdate, judge};
-ghost use Rattle.model.specs.Prepare.{observing, observed, withLeaf, handedTo, turned, firstRefusal, turnTests, turn, turnsFrom};
+ghost use Rattle.model.specs.Prepare.{existing, observing, observed, withLeaf, handedTo, turned, firstRefusal, turnTests, turn, turnsFrom};
 ghost use Rattle.region.specs.Region.{view, Laid, Became};
 ghost use Rattle.writers.specs.Taken.{Taken, outcomeBy};
 ghost use Rattle.turns.specs.Judged.{judgedOption};
@@ -36,6 +36,16 @@ fn must_match(name: NameNumber, expected: Target, actual: Target) -> Judged
     Judged::Refused(Refusal::ReferenceOutOfDate(name, expected, actual))
 }
 
+// What exists must match; nothing need exist.
+fn may_match(name: NameNumber, expected: Target, existing: OptionTarget) -> Judged
+    ensures { λ r. ⌜ judgedOption r ≡ judgeDelete name (PreviousValue.ExistingMustMatch expected) existing ⌝ }
+{
+    let OptionTarget::Present(actual) = existing else {
+        return Judged::Passed;
+    };
+    must_match(name, expected, actual)
+}
+
 fn judge_delete(name: NameNumber, expected: PreviousValue, existing: OptionTarget) -> Judged
     ensures { λ r. ⌜ judgedOption r ≡ judgeDelete name expected existing ⌝ }
 {
@@ -54,12 +64,7 @@ fn judge_delete(name: NameNumber, expected: PreviousValue, existing: OptionTarge
             };
             must_match(name, t, actual)
         }
-        PreviousValue::ExistingMustMatch(t) => {
-            let OptionTarget::Present(actual) = existing else {
-                return Judged::Passed;
-            };
-            must_match(name, t, actual)
-        }
+        PreviousValue::ExistingMustMatch(t) => may_match(name, t, existing),
     }
 }
 
@@ -101,12 +106,7 @@ fn judge_update(
             };
             must_match(name, t, actual)
         }
-        PreviousValue::ExistingMustMatch(t) => {
-            let OptionTarget::Present(actual) = existing else {
-                return Judged::Passed;
-            };
-            must_match(name, t, actual)
-        }
+        PreviousValue::ExistingMustMatch(t) => may_match(name, t, existing),
     }
 }
 
@@ -154,28 +154,45 @@ fn observe(row: Edit, existing: OptionTarget) -> Edit
 {
     let update = row.update;
     let name = update.name;
-    let parent = row.parent_index;
-    let leaf = row.leaf_referent_previous_oid;
     let change = update.change;
     let next = observing_in(change, existing);
-    Edit {
-        update: RefEdit::new(next, name, update.deref),
-        parent_index: parent,
-        leaf_referent_previous_oid: leaf,
-    }
+    let mut kept = row;
+    kept.update = RefEdit::new(next, name, update.deref);
+    kept
+}
+
+// R3: the row at place i with the existing value, which it keeps from now on.
+fn put_existing(region: &mut [u8], i: usize, opened: bool) -> Edit
+    requires { ⌜ Laid (now region) ⌝ }
+    requires { ⌜ i < length (rowsIn (view (now region) .prepared)) ⌝ }
+    ensures { λ r. ⌜ (r ≡ observed (rowAt (rowsIn (view (now (region .entry)) .prepared)) i) (existing (view (now (region .entry))) opened (rowAt (rowsIn (view (now (region .entry)) .prepared)) i))) × Became (now (region .exit)) (withRows (view (now (region .entry))) (set (rowsIn (view (now (region .entry)) .prepared)) i r)) ⌝ }
+{
+    let row = region::row_at(region, i);
+    let update = row.update;
+    let name = update.name;
+    let found = steps::value_of(region, opened, name);
+    let kept = observe(row, found);
+    writers::put_row_at(region, i, kept);
+    kept
 }
 
 // R5: a row with another leaf-previous.
 fn with_leaf(leaf: ObjectNumber, row: Edit) -> Edit
     ensures { λ r. ⌜ r ≡ withLeaf leaf row ⌝ }
 {
-    let update = row.update;
-    let parent = row.parent_index;
-    Edit {
-        update: update,
-        parent_index: parent,
-        leaf_referent_previous_oid: leaf,
-    }
+    let mut up = row;
+    up.leaf_referent_previous_oid = leaf;
+    up
+}
+
+// R5: the row at place i gets the leaf-previous.
+fn put_leaf(region: &mut [u8], i: usize, leaf: ObjectNumber)
+    requires { ⌜ Laid (now region) ⌝ }
+    requires { ⌜ i < length (rowsIn (view (now region) .prepared)) ⌝ }
+    ensures { λ _. ⌜ Became (now (region .exit)) (withRows (view (now (region .entry))) (set (rowsIn (view (now (region .entry)) .prepared)) i (withLeaf leaf (rowAt (rowsIn (view (now (region .entry)) .prepared)) i)))) ⌝ }
+{
+    let up = with_leaf(leaf, region::row_at(region, i));
+    writers::put_row_at(region, i, up);
 }
 
 // R5: every ancestor of the row at place i gets the leaf-previous.
@@ -190,8 +207,7 @@ fn hand_up(region: &mut [u8], i: usize, leaf: ObjectNumber)
     let ParentIndex::Parent(p) = parent else {
         return;
     };
-    let up = with_leaf(leaf, region::row_at(region, p));
-    writers::put_row_at(region, p, up);
+    put_leaf(region, p, leaf);
     hand_up(region, p, leaf);
 }
 
@@ -202,12 +218,7 @@ fn turn_row(region: &mut [u8], i: usize, opened: bool)
     requires { ⌜ Upward (length (rowsIn (view (now region) .prepared))) (rowsIn (view (now region) .prepared)) ⌝ }
     ensures { λ _. ⌜ Became (now (region .exit)) (withRows (view (now (region .entry))) (turned (view (now (region .entry))) opened (rowsIn (view (now (region .entry)) .prepared)) i)) ⌝ }
 {
-    let row = region::row_at(region, i);
-    let update = row.update;
-    let name = update.name;
-    let found = steps::value_of(region, opened, name);
-    let kept = observe(row, found);
-    writers::put_row_at(region, i, kept);
+    let kept = put_existing(region, i, opened);
     let edit = kept.update;
     let change = edit.change;
     let OptionObject::Id(oid) = change.previous_oid() else {

@@ -3,7 +3,7 @@ use mathlib.Core.Path.{_≡_, refl, sym, ap, ap₂, _∙_}
 use mathlib.Core.List.{List, [], _∷_, _++_, map}
 use mathlib.Core.Option.{none}
 use Prim.Native.Nat.{ℕ, suc, _+_, _*_, _≤_, _<_}
-use native.Mathlib.Nat.{mul-one}
+use native.Mathlib.Nat.{mul-one, le-trans}
 use native.Mathlib.Omega.{arith}
 use lib.ListN.{length, getD, set, replicate, length-set, length-append}
 use lib.Dec.{lit<}
@@ -21,7 +21,7 @@ use Rattle.model.specs.declared.Loose.{Loose}
 use Rattle.model.specs.declared.Packed.{Packed}
 use Rattle.model.specs.declared.Lock.{Lock}
 use Rattle.model.specs.declared.WriteReflog.{WriteReflog}
-use Rattle.model.specs.Store.{Store, Entry, noEntry, empty, count, lockByte, putLoose, putPacked, putLock, changeEntry, withEntries}
+use Rattle.model.specs.Store.{Store, Entry, noEntry, empty, count, lockByte, putLoose, putPacked, putLock, changeAt, changeEntry, withEntries}
 use Rattle.model.specs.Store.{withPackedLock, withPrepared}
 use Rattle.model.specs.Load.{newEntry}
 use Rattle.slots.specs.Values.{looseForm, packedForm, lockForm, lineForm}
@@ -90,20 +90,16 @@ became s n y a b c d e f g i =
 
 -- ---- one value of an entry written
 
-put-loose : (es : List Entry) (n : ℕ) (y : Entry) → n < 256 → n < length es
-    → put (n * 9) 9 (looses es) (looseForm (y .loose)) ≡ looses (set es n y)
-unfolding looses
-put-loose es n y l h = put-table 9 (λ (e : Entry). looseForm (e .loose)) (λ e. wide-loose (e .loose)) 256 n es y l h
-
-put-packed : (es : List Entry) (n : ℕ) (y : Entry) → n < 256 → n < length es
-    → put (n * 8) 8 (packeds es) (packedForm (y .packed)) ≡ packeds (set es n y)
-unfolding packeds
-put-packed es n y l h = put-table 8 (λ (e : Entry). packedForm (e .packed)) (λ e. wide-packed (e .packed)) 256 n es y l h
-
-put-lock : (es : List Entry) (n : ℕ) (y : Entry) → n < 256 → n < length es
-    → put (n * 1) 1 (locks es) (lockForm (y .lock)) ≡ locks (set es n y)
-unfolding locks
-put-lock es n y l h = put-table 1 (λ (e : Entry). lockForm (e .lock)) (λ e. wide-lock (e .lock)) 256 n es y l h
+puts : (es : List Entry) (n : ℕ) (y : Entry) → n < 256 → n < length es
+    → (put (n * 9) 9 (looses es) (looseForm (y .loose)) ≡ looses (set es n y))
+    × (put (n * 8) 8 (packeds es) (packedForm (y .packed)) ≡ packeds (set es n y))
+    × (put (n * 1) 1 (locks es) (lockForm (y .lock)) ≡ locks (set es n y))
+unfolding looses packeds locks
+puts es n y l h = (
+  put-table 9 (λ (e : Entry). looseForm (e .loose)) (λ e. wide-loose (e .loose)) 256 n es y l h,
+  put-table 8 (λ (e : Entry). packedForm (e .packed)) (λ e. wide-packed (e .packed)) 256 n es y l h,
+  put-table 1 (λ (e : Entry). lockForm (e .lock)) (λ e. wide-lock (e .lock)) 256 n es y l h,
+)
 
 -- a part of one column replaced
 in-looses : (s : Store) (n : ℕ) (v : List ℕ) → n < 256
@@ -124,35 +120,30 @@ in-locks : (s : Store) (n : ℕ) (v : List ℕ) → n < 256
 unfolding image sections framed names looses packeds locks
 in-locks s n v l = put-at (sections s) sizes (sized s) 11 (n * 1) 1 v (lit< tt) (slot-room n 256 1 l)
 
+-- entry n changed by f, by what stands in the columns of the region x
+changes : (s : Store) (n : ℕ) (f : Entry → Entry) {x a b c d : List ℕ} → x ≡ flat (framed s (count s) a b c d)
+    → a ≡ names (changeAt f n (s .entries)) → b ≡ looses (changeAt f n (s .entries))
+    → c ≡ packeds (changeAt f n (s .entries)) → d ≡ locks (changeAt f n (s .entries)) → x ≡ image (changeEntry f n s)
+unfolding image
+changes s n f e p q i j = e ∙ ap flat (became s n (f (getD (s .entries) n noEntry)) _ _ _ _ p q i j)
+
 pub write-loose : (s : Store) (n : ℕ) (v : Loose) → n < count s → count s ≤ 256
     → put (16653 + n * 9) 9 (image s) (looseForm v) ≡ image (changeEntry (putLoose v) n s)
-unfolding image
 write-loose s n v h k =
-    let l : n < 256 = omega arith in
-    let y : Entry = putLoose v (getD (s .entries) n noEntry) in
-    in-looses s n (looseForm v) l
-    ∙ ap flat (became s n y _ _ _ _ (sym (names-same (s .entries) n y refl)) (put-loose (s .entries) n y l h)
-    (sym (packeds-same (s .entries) n y refl)) (sym (locks-same (s .entries) n y refl)))
+    changes s n (putLoose v) (in-looses s n (looseForm v) (le-trans h k)) (sym (names-same (s .entries) n _ refl))
+    (puts (s .entries) n _ (le-trans h k) h .0) (sym (packeds-same (s .entries) n _ refl)) (sym (locks-same (s .entries) n _ refl))
 
 pub write-packed : (s : Store) (n : ℕ) (v : Packed) → n < count s → count s ≤ 256
     → put (18957 + n * 8) 8 (image s) (packedForm v) ≡ image (changeEntry (putPacked v) n s)
-unfolding image
 write-packed s n v h k =
-    let l : n < 256 = omega arith in
-    let y : Entry = putPacked v (getD (s .entries) n noEntry) in
-    in-packeds s n (packedForm v) l
-    ∙ ap flat (became s n y _ _ _ _ (sym (names-same (s .entries) n y refl)) (sym (looses-same (s .entries) n y refl))
-    (put-packed (s .entries) n y l h) (sym (locks-same (s .entries) n y refl)))
+    changes s n (putPacked v) (in-packeds s n (packedForm v) (le-trans h k)) (sym (names-same (s .entries) n _ refl))
+    (sym (looses-same (s .entries) n _ refl)) (puts (s .entries) n _ (le-trans h k) h .1) (sym (locks-same (s .entries) n _ refl))
 
 pub write-lock : (s : Store) (n : ℕ) (v : Lock) → n < count s → count s ≤ 256
     → put (21005 + n * 1) 1 (image s) (lockForm v) ≡ image (changeEntry (putLock v) n s)
-unfolding image
 write-lock s n v h k =
-    let l : n < 256 = omega arith in
-    let y : Entry = putLock v (getD (s .entries) n noEntry) in
-    in-locks s n (lockForm v) l
-    ∙ ap flat (became s n y _ _ _ _ (sym (names-same (s .entries) n y refl)) (sym (looses-same (s .entries) n y refl))
-    (sym (packeds-same (s .entries) n y refl)) (put-lock (s .entries) n y l h))
+    changes s n (putLock v) (in-locks s n (lockForm v) (le-trans h k)) (sym (names-same (s .entries) n _ refl))
+    (sym (looses-same (s .entries) n _ refl)) (sym (packeds-same (s .entries) n _ refl)) (puts (s .entries) n _ (le-trans h k) h .2)
 
 -- ---- the packed table's lock
 

@@ -1,5 +1,5 @@
 use borrow.Author.Needs.{needs}
-use Rattle.layout.proofs.Laws.{names-wide, looses-wide, locks-wide, rows-wide, names-held, looses-held, locks-held, rows-held}
+use Rattle.layout.proofs.Laws.{wide, table-held}
 use Rattle.layout.proofs.held_ok.Statement.{statement}
 use Rattle.layout.proofs.held_ok.Tie as tie
 
@@ -7,13 +7,13 @@ enum-told : tie.Need-enum-told
 enum-told c = search needs
 
 text-ok-requires : tie.Need-text-ok-requires
-text-ok-requires c κs = search names-wide
+text-ok-requires c κs = search wide
 
 enum-told-2 : tie.Need-enum-told-2
 enum-told-2 c = search needs
 
 loose-ok-requires : tie.Need-loose-ok-requires
-loose-ok-requires c κs = search looses-wide
+loose-ok-requires c κs = search wide
 
 enum-told-3 : tie.Need-enum-told-3
 enum-told-3 c = search needs
@@ -22,31 +22,31 @@ enum-told-4 : tie.Need-enum-told-4
 enum-told-4 c = search needs
 
 lock-ok-requires : tie.Need-lock-ok-requires
-lock-ok-requires c κs = search locks-wide
+lock-ok-requires c κs = search wide
 
 enum-told-5 : tie.Need-enum-told-5
 enum-told-5 c = search needs
 
 row-ok-requires : tie.Need-row-ok-requires
-row-ok-requires c κs = search rows-wide
+row-ok-requires c κs = search wide
 
 enum-told-6 : tie.Need-enum-told-6
 enum-told-6 c = search needs
 
 returns : tie.Need-returns
-returns c = search names-held
+returns c = search table-held
 
 returns-2 : tie.Need-returns-2
-returns-2 c = search looses-held
+returns-2 c = search table-held
 
 returns-3 : tie.Need-returns-3
 returns-3 c = search needs
 
 returns-4 : tie.Need-returns-4
-returns-4 c = search locks-held
+returns-4 c = search table-held
 
 returns-5 : tie.Need-returns-5
-returns-5 c = search rows-held
+returns-5 c = search table-held
 
 returns-6 : tie.Need-returns-6
 returns-6 c = search needs

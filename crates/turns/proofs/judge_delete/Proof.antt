@@ -39,32 +39,23 @@ must-match-requires c κs = search needs
 enum-known-expected-2 : tie.Need-enum-known-expected-2
 enum-known-expected-2 c = search needs
 
-enum-known-existing-2 : tie.Need-enum-known-existing-2
-enum-known-existing-2 c = search needs
-
-enum-told-7 : tie.Need-enum-told-7
-enum-told-7 c = search needs
+may-match-requires : tie.Need-may-match-requires
+may-match-requires c κs = search needs
 
 returns-3 : tie.Need-returns-3
 returns-3 c = search needs
-
-must-match-requires-2 : tie.Need-must-match-requires-2
-must-match-requires-2 c κs = search needs
 
 returns-4 : tie.Need-returns-4
 returns-4 c = search needs
 
 returns-5 : tie.Need-returns-5
-returns-5 c = search needs
+returns-5 c = search delete-not
 
 returns-6 : tie.Need-returns-6
-returns-6 c = search delete-not
+returns-6 c = search delete-match
 
 returns-7 : tie.Need-returns-7
-returns-7 c = search delete-match
-
-returns-8 : tie.Need-returns-8
-returns-8 c = search delete-may
+returns-7 c = search delete-may
 
 pub judge-delete-spec : {M : Type 1} → statement M
 judge-delete-spec =
@@ -82,12 +73,9 @@ judge-delete-spec =
     returns-2
     must-match-requires
     enum-known-expected-2
-    enum-known-existing-2
-    enum-told-7
+    may-match-requires
     returns-3
-    must-match-requires-2
     returns-4
     returns-5
     returns-6
-    returns-7
-    returns-8)
+    returns-7)

@@ -54,32 +54,23 @@ must-match-requires c κs = search needs
 enum-known-expected-2 : tie.Need-enum-known-expected-2
 enum-known-expected-2 c = search needs
 
-enum-known-existing-3 : tie.Need-enum-known-existing-3
-enum-known-existing-3 c = search needs
-
-enum-told-8 : tie.Need-enum-told-8
-enum-told-8 c = search needs
+may-match-requires : tie.Need-may-match-requires
+may-match-requires c κs = search needs
 
 returns-4 : tie.Need-returns-4
 returns-4 c = search needs
-
-must-match-requires-2 : tie.Need-must-match-requires-2
-must-match-requires-2 c κs = search needs
 
 returns-5 : tie.Need-returns-5
 returns-5 c = search needs
 
 returns-6 : tie.Need-returns-6
-returns-6 c = search needs
+returns-6 c = search update-not
 
 returns-7 : tie.Need-returns-7
-returns-7 c = search update-not
+returns-7 c = search update-match
 
 returns-8 : tie.Need-returns-8
-returns-8 c = search update-match
-
-returns-9 : tie.Need-returns-9
-returns-9 c = search update-may
+returns-8 c = search update-may
 
 pub judge-update-spec : {M : Type 1} → statement M
 judge-update-spec =
@@ -102,12 +93,9 @@ judge-update-spec =
     returns-3
     must-match-requires
     enum-known-expected-2
-    enum-known-existing-3
-    enum-told-8
+    may-match-requires
     returns-4
-    must-match-requires-2
     returns-5
     returns-6
     returns-7
-    returns-8
-    returns-9)
+    returns-8)
