@@ -15,7 +15,7 @@ use Rattle.model.specs.Reply.Call.{start, rollback}
 use Rattle.model.specs.Reply.Given.{number}
 use Rattle.model.specs.Calls.{step, rolledBack}
 use Rattle.model.specs.Load.{settingOf, started}
-use Rattle.model.specs.Numbers.{answer, answerOf}
+use Rattle.model.specs.Numbers.{answer, answerOf, refusalAnswer}
 use Rattle.region.specs.Layout.{regionSize}
 use Rattle.region.specs.Region.{image, view, good, Became}
 use Rattle.answers.specs.declared.Verdict.{Verdict}
@@ -23,7 +23,7 @@ use Rattle.answers.specs.Answers.{answerBy}
 use Rattle.calls.specs.declared.OptionSetting.{OptionSetting}
 use Rattle.calls.specs.declared.OptionSetting.the-variants.{NoSetting, Setting}
 use Rattle.calls.specs.Call.{replyTo, Replied, settingOption}
-use Rattle.calls.proofs.Replies.{refuses, bad-region, says-done, no-1, no-2}
+use Rattle.calls.proofs.Replies.{refuses, bad-region, says-done}
 
 -- ---- start
 
@@ -44,8 +44,8 @@ setting-none (suc (suc (suc k))) a b c = refl
 
 module _ (k : ℕ) (r : List ℕ) (v : Verdict) where
   pub start-size : (length r ≡ regionSize → ⊥) → answerBy v ≡ answer 1 [] → Replied v r r (replyTo (start k) r)
-  unfolding replyTo
-  start-size h a = refuses (start k) r BadRegion v (a ∙ no-1) (rw (ne-eqb (length r) regionSize h))
+  unfolding replyTo refusalAnswer
+  start-size h a = refuses (start k) r BadRegion v a (rw (ne-eqb (length r) regionSize h))
 
   module _ (e : length r ≡ regionSize) (o : OptionSetting) (is : settingOption o ≡ settingOf k) where
     starts : replyTo (start k) r ≡ started k
@@ -53,8 +53,8 @@ module _ (k : ℕ) (r : List ℕ) (v : Verdict) where
     starts = rw (eq-eqb (length r) regionSize e)
 
     pub start-malformed : o ≡ NoSetting → answerBy v ≡ answer 2 [] → Replied v r r (replyTo (start k) r)
-    unfolding started
-    start-malformed h a = refuses (start k) r Malformed v (a ∙ no-2) (starts ∙ (rw (← is, h)))
+    unfolding started refusalAnswer
+    start-malformed h a = refuses (start k) r Malformed v a (starts ∙ (rw (← is, h)))
 
     pub start-done : (s : WriteReflog) (r′ : List ℕ) → o ≡ Setting s → r′ ≡ image (empty s) → answerBy v ≡ answer 0 []
         → Replied v r r′ (replyTo (start k) r)

@@ -5,7 +5,7 @@ use mathlib.Core.List.{List, [], _∷_}
 use Prim.Native.Nat.{ℕ}
 use borrow.Author.Tests.{not-true, not-false}
 use Rattle.model.specs.declared.Refusal.{Refusal}
-use Rattle.model.specs.declared.Refusal.the-variants.{BadRegion, Malformed, NotRegistered, WrongState, BadName, NamesFull, WrongLock, BadLoad, NothingThere}
+use Rattle.model.specs.declared.Refusal.the-variants.{BadRegion}
 use Rattle.model.specs.Store.{Store}
 use Rattle.model.specs.Reply.{Call, Given}
 use Rattle.model.specs.Reply.Reply.{done, refused}
@@ -21,44 +21,6 @@ use Rattle.calls.specs.Call.{sized, isStart, found, stepOn, replyTo, Rep
 pub good-laid : (r : List ℕ) (ok : Bool) → ok ≡ good r → not ok ≡ false → Laid r
 good-laid r ok is y = laid r (good-parts r (sym is ∙ not-false ok y) .0)
 
--- ---- the number of each refusal that these calls give, and what stands in its place 0
-
-pub no-1 : answer 1 [] ≡ refusalAnswer BadRegion
-unfolding refusalAnswer
-no-1 = refl
-
-pub no-2 : answer 2 [] ≡ refusalAnswer Malformed
-unfolding refusalAnswer
-no-2 = refl
-
-pub no-3 : (n : ℕ) → answer 3 (n ∷ []) ≡ refusalAnswer (NotRegistered n)
-unfolding refusalAnswer
-no-3 n = refl
-
-pub no-15 : answer 15 [] ≡ refusalAnswer WrongState
-unfolding refusalAnswer
-no-15 = refl
-
-pub no-18 : answer 18 [] ≡ refusalAnswer BadName
-unfolding refusalAnswer
-no-18 = refl
-
-pub no-19 : answer 19 [] ≡ refusalAnswer NamesFull
-unfolding refusalAnswer
-no-19 = refl
-
-pub no-20 : answer 20 [] ≡ refusalAnswer WrongLock
-unfolding refusalAnswer
-no-20 = refl
-
-pub no-21 : answer 21 [] ≡ refusalAnswer BadLoad
-unfolding refusalAnswer
-no-21 = refl
-
-pub no-22 : answer 22 [] ≡ refusalAnswer NothingThere
-unfolding refusalAnswer
-no-22 = refl
-
 -- ---- the ways to answer
 
 -- a refusal, with the region as it is
@@ -72,8 +34,8 @@ module _ (c : Call) (r : List ℕ) (ok : Bool) (is : ok ≡ good r) (looks : isS
   finds = ap (λ (b : Bool). cond b (sized r) (decode r)) looks
 
   pub bad-region : (v : Verdict) → not ok ≡ true → answerBy v ≡ answer 1 [] → Replied v r r (replyTo c r)
-  unfolding replyTo
-  bad-region v n a = refuses c r BadRegion v (a ∙ no-1) (ap (stepOn c) (finds ∙ decode-bad r (sym is ∙ not-true ok n)))
+  unfolding replyTo refusalAnswer
+  bad-region v n a = refuses c r BadRegion v a (ap (stepOn c) (finds ∙ decode-bad r (sym is ∙ not-true ok n)))
 
   module _ (y : not ok ≡ false) where
     pub replies : replyTo c r ≡ step c (view r)

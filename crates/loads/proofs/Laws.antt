@@ -35,7 +35,7 @@ use Rattle.slots.specs.declared.OptionLoose.{OptionLoose}
 use Rattle.slots.specs.declared.OptionLoose.the-variants as optionLoose
 use Rattle.slots.specs.Values.{FitsLoose, FitsPacked, unbroken, looseFrom, looseOption}
 use Rattle.model.specs.EditList.{_>>=_ as _>>=ₒ_}
-use Rattle.model.specs.Numbers.{answer}
+use Rattle.model.specs.Numbers.{answer, refusalAnswer}
 use Rattle.word.proofs.Tests.{both-true}
 use Rattle.model.proofs.Binds.{cond-some, some-is, none-some}
 use Rattle.slots.proofs.Forms.{loose-back}
@@ -46,7 +46,7 @@ use Rattle.steps.specs.Steps.{packedBy, packedOption}
 use Rattle.answers.specs.declared.Verdict.{Verdict}
 use Rattle.answers.specs.Answers.{answerBy}
 use Rattle.calls.specs.Call.{replyTo, Replied}
-use Rattle.calls.proofs.Replies.{good-laid, says-no, says-done, no-3, no-15, no-21}
+use Rattle.calls.proofs.Replies.{good-laid, says-no, says-done}
 use Rattle.calls.proofs.Known.{known-far, known-near, known-as}
 
 -- ---- a link that is not registered
@@ -147,21 +147,21 @@ packed-fits b (suc (suc k)) x v f h = absurd (none-some (sym h))
 
 module _ (n kind x : ℕ) (r : List ℕ) (ok : Bool) (is : ok ≡ good r) (y : not ok ≡ false) (m : ℕ) (em : m ≡ modeByte (view r .prepared)) (w : Verdict) where
   pub loose-busy : (m ≡ 0 → ⊥) → answerBy w ≡ answer 15 [] → Replied w r r (replyTo (loadLoose n kind x) r)
-  unfolding step looseLoaded
-  loose-busy h a = says-no (loadLoose n kind x) r ok is refl y WrongState w (a ∙ no-15) (rw (busy m (view r) em h))
+  unfolding step looseLoaded refusalAnswer
+  loose-busy h a = says-no (loadLoose n kind x) r ok is refl y WrongState w a (rw (busy m (view r) em h))
 
   pub packed-busy : (m ≡ 0 → ⊥) → answerBy w ≡ answer 15 [] → Replied w r r (replyTo (loadPacked n kind x) r)
-  unfolding step packedLoaded
-  packed-busy h a = says-no (loadPacked n kind x) r ok is refl y WrongState w (a ∙ no-15) (rw (busy m (view r) em h))
+  unfolding step packedLoaded refusalAnswer
+  packed-busy h a = says-no (loadPacked n kind x) r ok is refl y WrongState w a (rw (busy m (view r) em h))
 
   module _ (h : m ≡ 0) (i : OptionName) (ei : i ≡ nameBelow (count (view r)) n) where
     pub loose-far : i ≡ NoName → answerBy w ≡ answer 3 (n ∷ []) → Replied w r r (replyTo (loadLoose n kind x) r)
-    unfolding step looseLoaded
-    loose-far l a = says-no (loadLoose n kind x) r ok is refl y (NotRegistered n) w (a ∙ no-3 n) (rw (free m (view r) em h, known-far n (view r) i ei l))
+    unfolding step looseLoaded refusalAnswer
+    loose-far l a = says-no (loadLoose n kind x) r ok is refl y (NotRegistered n) w a (rw (free m (view r) em h, known-far n (view r) i ei l))
 
     pub packed-far : i ≡ NoName → answerBy w ≡ answer 3 (n ∷ []) → Replied w r r (replyTo (loadPacked n kind x) r)
-    unfolding step packedLoaded
-    packed-far l a = says-no (loadPacked n kind x) r ok is refl y (NotRegistered n) w (a ∙ no-3 n) (rw (free m (view r) em h, known-far n (view r) i ei l))
+    unfolding step packedLoaded refusalAnswer
+    packed-far l a = says-no (loadPacked n kind x) r ok is refl y (NotRegistered n) w a (rw (free m (view r) em h, known-far n (view r) i ei l))
 
     module _ (at : NameNumber) (l : i ≡ Name at) where
       on : (reply : Reply) → (idle (view r) >> (known n (view r) >> reply)) ≡ reply
@@ -172,18 +172,18 @@ module _ (n kind x : ℕ) (r : List ℕ) (ok : Bool) (is : ok ≡ good r) (y : n
 
       module _ (stray : Bool) (es : stray ≡ (eqb kind 2 && not (ltb x (count (view r))))) where
         pub loose-stray : stray ≡ true → answerBy w ≡ answer 3 (x ∷ []) → Replied w r r (replyTo (loadLoose n kind x) r)
-        unfolding step looseLoaded
-        loose-stray q a = says-no (loadLoose n kind x) r ok is refl y (NotRegistered x) w (a ∙ no-3 x) (on _ ∙ (rw (sym es ∙ q)))
+        unfolding step looseLoaded refusalAnswer
+        loose-stray q a = says-no (loadLoose n kind x) r ok is refl y (NotRegistered x) w a (on _ ∙ (rw (sym es ∙ q)))
 
         module _ (q : stray ≡ false) (o : OptionLoose) (eo : looseOption o ≡ looseFrom kind x) (f : Fits w64 x) where
           same : looseOption o ≡ looseOf kind x
           same = eo ∙ loose-same kind x (count (view r)) f (good-laid r ok is y .names) (sym es ∙ q)
 
           pub loose-bad : o ≡ optionLoose.NoLoose → answerBy w ≡ answer 21 [] → Replied w r r (replyTo (loadLoose n kind x) r)
-          unfolding step looseLoaded
+          unfolding step looseLoaded refusalAnswer
           loose-bad p a =
               let none-there : none ≡ looseOf kind x = ap looseOption (sym p) ∙ same in
-              says-no (loadLoose n kind x) r ok is refl y BadLoad w (a ∙ no-21) (on _ ∙ (rw (sym es ∙ q, ← none-there)))
+              says-no (loadLoose n kind x) r ok is refl y BadLoad w a (on _ ∙ (rw (sym es ∙ q, ← none-there)))
 
           pub loose-done : (v : Loose) (r′ : List ℕ) → o ≡ optionLoose.Loose v → Became r′ (changeEntry (putLoose v) (at .0) (view r)) → answerBy w ≡ answer 0 []
               → Replied w r r′ (replyTo (loadLoose n kind x) r)
@@ -199,10 +199,10 @@ module _ (n kind x : ℕ) (r : List ℕ) (ok : Bool) (is : ok ≡ good r) (y : n
             eo ∙ packed-same (entryAt (view r) n .name) b kind x (eb ∙ ap packable (en ∙ ap (λ (at : NameNumber). entryOf (view r) at .name) as-named))
 
         pub packed-bad : o ≡ optionPacked.NoPacked → answerBy w ≡ answer 21 [] → Replied w r r (replyTo (loadPacked n kind x) r)
-        unfolding step packedLoaded
+        unfolding step packedLoaded refusalAnswer
         packed-bad p a =
             let none-there : none ≡ packedOf (entryAt (view r) n .name) kind x = ap packedOption (sym p) ∙ as-packed in
-            says-no (loadPacked n kind x) r ok is refl y BadLoad w (a ∙ no-21) (on _ ∙ (rw (← none-there)))
+            says-no (loadPacked n kind x) r ok is refl y BadLoad w a (on _ ∙ (rw (← none-there)))
 
         pub packed-done : (v : Packed) (r′ : List ℕ) → o ≡ optionPacked.Packed v → Became r′ (changeEntry (putPacked v) (at .0) (view r)) → answerBy w ≡ answer 0 []
             → Replied w r r′ (replyTo (loadPacked n kind x) r)

@@ -32,7 +32,7 @@ use Rattle.steps.specs.Steps.{foundOption}
 use Rattle.answers.specs.declared.Verdict.{Verdict}
 use Rattle.answers.specs.Answers.{answerBy}
 use Rattle.calls.specs.Call.{replyTo, Replied, namePart}
-use Rattle.calls.proofs.Replies.{good-laid, bad-region, replies, says-no, says-done, says-read, no-3, no-18, no-19}
+use Rattle.calls.proofs.Replies.{good-laid, bad-region, replies, says-no, says-done, says-read}
 use Rattle.calls.proofs.Known.{known-far, known-near, known-as, near}
 
 -- ---- adding a name
@@ -52,8 +52,8 @@ count-room r k e l = rw e at l
 
 module _ (name : List ℕ) (r : List ℕ) (ok : Bool) (is : ok ≡ good r) (y : not ok ≡ false) (b : Bool) (eb : b ≡ isName name) (v : Verdict) where
   pub add-bad : not b ≡ true → answerBy v ≡ answer 18 [] → Replied v r r (replyTo (addName name) r)
-  unfolding step nameAdded
-  add-bad h a = says-no (addName name) r ok is refl y BadName v (a ∙ no-18) (rw (sym eb ∙ not-true b h))
+  unfolding step nameAdded refusalAnswer
+  add-bad h a = says-no (addName name) r ok is refl y BadName v a (rw (sym eb ∙ not-true b h))
 
   module _ (h : not b ≡ false) (o : OptionName) (eo : foundOption o ≡ numberFrom 0 name (view r .entries)) where
     adds : step (addName name) (view r) ≡ addedAs name (view r) (foundOption o)
@@ -65,9 +65,10 @@ module _ (name : List ℕ) (r : List ℕ) (ok : Bool) (is : ok ≡ good r) (y : 
 
     module _ (q : o ≡ NoName) (k : ℕ) (ek : k ≡ count (view r)) where
       pub add-full : 256 ≤ k → answerBy v ≡ answer 19 [] → Replied v r r (replyTo (addName name) r)
+      unfolding refusalAnswer
       add-full l a =
           let m : 256 ≤ count (view r) = rw ek at l in
-          says-no (addName name) r ok is refl y NamesFull v (a ∙ no-19) (adds ∙ (rw (q, le-leb 256 (count (view r)) m)))
+          says-no (addName name) r ok is refl y NamesFull v a (adds ∙ (rw (q, le-leb 256 (count (view r)) m)))
 
       pub add-done : k < 256 → (r′ : List ℕ) → Became r′ (withEntries (view r) (view r .entries ++ (newEntry name ∷ []))) → answerBy v ≡ answer 0 (k ∷ [])
           → Replied v r r′ (replyTo (addName name) r)
@@ -155,8 +156,8 @@ module _ (n : ℕ) (r p : List ℕ) (e : p ≡ namePart n r) where
         (a ∙ ap (λ (p : List ℕ). answer 0 (nameOffset n ∷ length p ∷ [])) (e ∙ sym name))
 
   pub bytes-far : (ok : Bool) (v : Verdict) → ok ≡ good r → not ok ≡ false → length p ≡ 0 → answerBy v ≡ answer 3 (n ∷ []) → Replied v r r (replyTo (nameBytes n) r)
-  unfolding step bytesGiven
-  bytes-far ok v is y h a = says-no (nameBytes n) r ok is refl y (NotRegistered n) v (a ∙ no-3 n) (go (ltb n (count (view r))) refl)
+  unfolding step bytesGiven refusalAnswer
+  bytes-far ok v is y h a = says-no (nameBytes n) r ok is refl y (NotRegistered n) v a (go (ltb n (count (view r))) refl)
     where
       go : (k : Bool) → ltb n (count (view r)) ≡ k → step (nameBytes n) (view r) ≡ refused (NotRegistered n)
       go true ek =

@@ -22,7 +22,7 @@ use Rattle.model.specs.Store.{count, entryOf, linesOf, rowsIn, noLine}
 use Rattle.model.specs.Read.{valueOf, reading}
 use Rattle.model.specs.Rows.{rowAt}
 use Rattle.model.specs.Reply.Reply.{done}
-use Rattle.model.specs.Numbers.{answer, optionPlaces, rowPlaces}
+use Rattle.model.specs.Numbers.{answer, optionPlaces, rowPlaces, refusalAnswer}
 use Rattle.model.specs.Reply.Call.{readName, readLine, readRow}
 use Rattle.model.specs.Reply.Given.{value, line, row}
 use Rattle.model.specs.Calls.{step, nameRead, lineRead, rowRead}
@@ -31,7 +31,7 @@ use Rattle.steps.specs.Steps.{lineOption, lineAmong}
 use Rattle.answers.specs.declared.Verdict.{Verdict}
 use Rattle.answers.specs.Answers.{answerBy}
 use Rattle.calls.specs.Call.{replyTo, Replied}
-use Rattle.calls.proofs.Replies.{says-no, says-read, no-3, no-22}
+use Rattle.calls.proofs.Replies.{says-no, says-read}
 use Rattle.calls.proofs.Known.{known-far, known-near, known-as}
 
 -- a line at a place is there exactly where the place is below the count
@@ -53,12 +53,12 @@ a-line place ls x h = go (ltb place (length ls)) refl h
 module _ (r : List ℕ) (ok : Bool) (is : ok ≡ good r) (y : not ok ≡ false) (x : Verdict) where
   module _ (n : ℕ) (o : OptionName) (e : o ≡ nameBelow (count (view r)) n) where
     pub name-far : o ≡ NoName → answerBy x ≡ answer 3 (n ∷ []) → Replied x r r (replyTo (readName n) r)
-    unfolding step nameRead
-    name-far h a = says-no (readName n) r ok is refl y (NotRegistered n) x (a ∙ no-3 n) (rw (known-far n (view r) o e h))
+    unfolding step nameRead refusalAnswer
+    name-far h a = says-no (readName n) r ok is refl y (NotRegistered n) x a (rw (known-far n (view r) o e h))
 
     pub line-far : (place : ℕ) → o ≡ NoName → answerBy x ≡ answer 3 (n ∷ []) → Replied x r r (replyTo (readLine n place) r)
-    unfolding step lineRead
-    line-far place h a = says-no (readLine n place) r ok is refl y (NotRegistered n) x (a ∙ no-3 n) (rw (known-far n (view r) o e h))
+    unfolding step lineRead refusalAnswer
+    line-far place h a = says-no (readLine n place) r ok is refl y (NotRegistered n) x a (rw (known-far n (view r) o e h))
 
     module _ (m : NameNumber) (h : o ≡ Name m) where
       as-named : m ≡ record { 0 = n }
@@ -77,10 +77,10 @@ module _ (r : List ℕ) (ok : Bool) (is : ok ≡ good r) (y : not ok ≡ false) 
         among = el ∙ ap (λ (m : NameNumber). lineAmong place (linesOf (view r) m)) as-named
 
         pub line-none : l ≡ optionLine.NoLine → answerBy x ≡ answer 22 [] → Replied x r r (replyTo (readLine n place) r)
-        unfolding step lineRead
+        unfolding step lineRead refusalAnswer
         line-none g a =
             let q : none ≡ lineAmong place (linesOf (view r) (record { 0 = n })) = ap lineOption (sym g) ∙ among in
-            says-no (readLine n place) r ok is refl y NothingThere x (a ∙ no-22)
+            says-no (readLine n place) r ok is refl y NothingThere x a
             (rw (known-near n (view r) o e m h, no-line place (linesOf (view r) (record { 0 = n })) q))
 
         pub line-done : (t : Line) → l ≡ optionLine.Line t → answerBy x ≡ answer 0 (t .previous .0 ∷ t .new .0 ∷ t .committer ∷ t .message ∷ [])
@@ -95,10 +95,10 @@ module _ (r : List ℕ) (ok : Bool) (is : ok ≡ good r) (y : not ok ≡ false) 
 
   module _ (place k : ℕ) (e : k ≡ length (rowsIn (view r .prepared))) where
     pub row-far : k ≤ place → answerBy x ≡ answer 22 [] → Replied x r r (replyTo (readRow place) r)
-    unfolding step rowRead
+    unfolding step rowRead refusalAnswer
     row-far l a =
         let b : length (rowsIn (view r .prepared)) ≤ place = rw e at l in
-        says-no (readRow place) r ok is refl y NothingThere x (a ∙ no-22) (rw (le-leb _ _ b))
+        says-no (readRow place) r ok is refl y NothingThere x a (rw (le-leb _ _ b))
 
     pub row-done : place < k → (t : Edit) → t ≡ rowAt (rowsIn (view r .prepared)) place → answerBy x ≡ answer 0 (rowPlaces t) → Replied x r r (replyTo (readRow place) r)
     unfolding step rowRead

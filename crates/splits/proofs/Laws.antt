@@ -100,5 +100,3 @@ module _ (s : Store) (rows : List Edit) (k : ℕ) (ek : k ≡ length rows) (i : 
     pub leads-later : o ≡ NoName → leadsOn s (i + 1) rows ≡ t
     unfolding leadsOn
     leads-later e = rw (← eo, e) at (sym leads-at) ∙ w
-
--- ---- the name in a row
