@@ -2,7 +2,7 @@
 // fixes the number, every byte of the record and every byte of what is lent, the region first.
 ghost use mathlib.Core.List.{[], _∷_};
 ghost use Rattle.model.specs.Reply.Call.{start, addName, nameBytes, loadLoose, loadPacked, lockName, unlockName};
-ghost use Rattle.model.specs.Reply.Call.{lockPacked, unlockPacked, rollback, readName, readLine, readRow};
+ghost use Rattle.model.specs.Reply.Call.{lockPacked, unlockPacked, prepare, rollback, readName, readLine, readRow};
 ghost use Rattle.calls.specs.Call.{call, Did};
 use answers::Answer;
 
@@ -123,6 +123,23 @@ pub extern "C" fn dehlbazin_unlock_packed(region: &mut [u8], answer: &mut [u8]) 
         return Answer::BAD_REGION;
     }
     let verdict = locks::unlock_packed(region);
+    answers::finish(answer, verdict)
+}
+
+// Judges a list of edits and takes their locks: how many rows the transaction has.
+#[no_mangle]
+pub extern "C" fn dehlbazin_prepare(
+    region: &mut [u8],
+    list: &[u8],
+    mode: u64,
+    answer: &mut [u8],
+) -> u32
+    ensures { λ r. ⌜ Did (call (prepare (now (list .entry)) mode) (now (region .entry)) (now (answer .entry))) r (now (answer .exit)) (now (region .exit) ∷ []) ⌝ }
+{
+    if answer.len() != Answer::SIZE {
+        return Answer::BAD_REGION;
+    }
+    let verdict = preparing::prepare(region, list, mode);
     answers::finish(answer, verdict)
 }
 

@@ -3,12 +3,14 @@
 use mathlib.Core.Path.{_≡_, refl, sym, ap, ap₂, _∙_}
 use mathlib.Core.Bool.{Bool, true, false, _||_, cond, false≢true}
 use mathlib.Core.List.{List, [], _∷_, _++_, map, append-nil}
+use mathlib.Core.Option.{Option}
 use Prim.Native.Nat.{ℕ, zero, suc, _+_, _-_, _<_, _≤_}
 use native.Mathlib.Omega.{arith}
 use lib.ListN.{length, take, drop, replicate, take-append-drop, length-append, length-map, length-drop}
 use lib.Seq.{getD-drop, length-take-le, take-at, drop-at}
 use lib.Dec.{ltb}
 use borrow.Author.Tests.{le-ltb}
+use Rattle.target.specs.declared.NameNumber.{NameNumber}
 use Rattle.target.specs.declared.OptionName.{OptionName}
 use Rattle.target.specs.declared.OptionName.the-variants.{NoName, Name}
 use Rattle.transaction.specs.declared.RefEdit.{RefEdit}
@@ -16,11 +18,11 @@ use Rattle.transaction.specs.declared.Edit.{Edit}
 use Rattle.transaction.specs.Change.{rowOf}
 use Rattle.model.specs.declared.Refusal.the-variants.{ReferenceCycle, TooManyRows}
 use Rattle.model.specs.Basic.{any}
-use Rattle.model.specs.Store.{Store, noRow, withRows}
+use Rattle.model.specs.Store.{Store, Prepared, noRow, rowsAs, withPrepared, withRows}
 use Rattle.model.specs.Rows.{nameIn, changeIn, rowAt}
 use Rattle.model.specs.Outcome.{Outcome}
 use Rattle.model.specs.Outcome.Outcome.{refuse, pass}
-use Rattle.model.specs.Split.{referent, settled, childOf, settleAll, childrenFrom, rounds, splits}
+use Rattle.model.specs.Split.{referent, settled, childOf, settleAll, childrenFrom, rounds, splits, repeated, lesser, least, orMultiple, oneNameOneEdit}
 use Rattle.splits.specs.Round.{hide, hiddenRows, followed, isThere, leadsOn, stepped, steps}
 use Rattle.splits.proofs.Model.{asked, flags, round-is, map-append}
 
@@ -139,20 +141,37 @@ module _ (s : Store) (l : List Edit) where
   steps-of [] i rows = refl
   steps-of (f ∷ fs) i rows = steps-of fs (i + 1) (stepped s f i rows)
 
-  children-of : (i : ℕ) (rows : List Edit) → childrenFrom (withRows s l) i rows ≡ childrenFrom s i rows
+module _ (s : Store) (q : Option Prepared) where
+  children-of : (i : ℕ) (rows : List Edit) → childrenFrom (withPrepared s q) i rows ≡ childrenFrom s i rows
   unfolding referent
   children-of i [] = refl
   children-of i (r ∷ rs) = ap (λ (k : List Edit). childOf (referent s r) i r ++ k) (children-of (i + 1) rs)
 
-  rounds-of : (k : ℕ) (old new : List Edit) → rounds (withRows s l) k old new ≡ rounds s k old new
+  rounds-of : (k : ℕ) (old new : List Edit) → rounds (withPrepared s q) k old new ≡ rounds s k old new
   unfolding rounds settleAll referent
   rounds-of zero old [] = refl
   rounds-of zero old (r ∷ rs) = refl
   rounds-of (suc k) old [] = refl
   rounds-of (suc k) old (r ∷ rs) =
       ap (λ (o : Outcome (List Edit)). cond (ltb 160 (length old + length (r ∷ rs))) (refuse TooManyRows) o)
-      (rounds-of k (old ++ settleAll s (r ∷ rs)) (childrenFrom (withRows s l) (length old) (r ∷ rs))
+      (rounds-of k (old ++ settleAll s (r ∷ rs)) (childrenFrom (withPrepared s q) (length old) (r ∷ rs))
       ∙ ap (rounds s k (old ++ settleAll s (r ∷ rs))) (children-of (length old) (r ∷ rs)))
+
+  pub splits-of : (rows : List Edit) → splits (withPrepared s q) rows ≡ splits s rows
+  unfolding splits
+  splits-of rows = rounds-of 5 [] rows
+
+  lesser-of : (n : NameNumber) (o : OptionName) → lesser (withPrepared s q) n o ≡ lesser s n o
+  lesser-of n NoName = refl
+  lesser-of n (Name m) = refl
+
+  least-of : (ns : List NameNumber) → least (withPrepared s q) ns ≡ least s ns
+  least-of [] = refl
+  least-of (n ∷ ns) = lesser-of n (least (withPrepared s q) ns) ∙ ap (lesser s n) (least-of ns)
+
+  pub one-name-of : (rows : List Edit) → oneNameOneEdit (withPrepared s q) rows ≡ oneNameOneEdit s rows
+  unfolding oneNameOneEdit
+  one-name-of rows = ap orMultiple (least-of (repeated (map nameIn rows)))
 
 -- ---- what is left of the rounds, by the table: the rows before place `first` are settled, and the others are the newest
 
@@ -161,7 +180,7 @@ onward s left first rows = rounds s left (take first rows) (map shown (drop firs
 
 pub onward-of : (s : Store) (l : List Edit) (left first : ℕ) (rows : List Edit) → onward (withRows s l) left first rows ≡ onward s left first rows
 unfolding onward
-onward-of s l left first rows = rounds-of s l left (take first rows) (map shown (drop first rows))
+onward-of s l left first rows = rounds-of s (rowsAs l (s .prepared)) left (take first rows) (map shown (drop first rows))
 
 -- what a round made: settled rows, and children as the table has them
 onward-is : (s : Store) (left end : ℕ) (old new rows : List Edit) → length (old ++ settleAll s new) ≡ end → (i : ℕ)

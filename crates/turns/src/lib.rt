@@ -229,7 +229,7 @@ fn turn_row(region: &mut [u8], i: usize, opened: bool)
 
 // ---- a turn
 
-fn is_foreign(lock: Lock) -> bool
+pub fn is_foreign(lock: Lock) -> bool
     ensures { λ r. ⌜ r ≡ isLock Lock.Foreign lock ⌝ }
 {
     match lock {
