@@ -33,6 +33,7 @@ int main(int count, char **words)
     part("log", test_log);
     part("prepared", test_prepared);
     part("rules", test_rules);
+    part("prepare_list", test_prepare_list);
     part("random", test_random);
     part("flips", [=] { test_flips(every); });
     return closing() ? 0 : 1;
