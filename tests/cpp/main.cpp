@@ -34,6 +34,7 @@ int main(int count, char **words)
     part("prepared", test_prepared);
     part("rules", test_rules);
     part("prepare_list", test_prepare_list);
+    part("prepare_splits", test_prepare_splits);
     part("random", test_random);
     part("flips", [=] { test_flips(every); });
     return closing() ? 0 : 1;
