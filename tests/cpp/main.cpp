@@ -35,6 +35,7 @@ int main(int count, char **words)
     part("rules", test_rules);
     part("prepare_list", test_prepare_list);
     part("prepare_splits", test_prepare_splits);
+    part("prepare_turns", test_prepare_turns);
     part("random", test_random);
     part("flips", [=] { test_flips(every); });
     return closing() ? 0 : 1;
