@@ -36,6 +36,7 @@ int main(int count, char **words)
     part("prepare_list", test_prepare_list);
     part("prepare_splits", test_prepare_splits);
     part("prepare_turns", test_prepare_turns);
+    part("prepare_kept", test_prepare_kept);
     part("random", test_random);
     part("flips", [=] { test_flips(every); });
     return closing() ? 0 : 1;

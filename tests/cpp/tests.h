@@ -14,5 +14,6 @@ void test_rules();
 void test_prepare_list();
 void test_prepare_splits();
 void test_prepare_turns();
+void test_prepare_kept();
 void test_random();
 void test_flips(size_t every); // turns over one bit of each so many
