@@ -1,0 +1,149 @@
+#include "randoms.h"
+
+#include "calls.h"
+#include "samples.h"
+
+// ---- numbers and names
+
+uint64_t object_number(Dice &dice)
+{
+    switch (dice.below(6)) {
+    case 0:
+        return 1;
+    case 1:
+        return ~uint64_t(0) - dice.below(2);
+    case 2:
+        return dice.any() | 1;
+    case 3:
+        return uint64_t(1) << dice.below(64);
+    default:
+        return 1 + dice.below(5);
+    }
+}
+
+uint64_t number_near(Dice &dice, uint64_t n)
+{
+    if (n > 0 && !dice.once_in(6))
+        return dice.below(n);
+    const uint64_t past[] = {n, n + 1, 255, 256, 65535, dice.one_of(too_large(dice.below(n + 1))), dice.any()};
+    return dice.one_of(past);
+}
+
+std::string good_name(Dice &dice)
+{
+    static const char *const places[] = {
+        "refs/", "refs/heads/", "refs/remotes/o/", "refs/notes/", "refs/tags/",
+        "refs/bisect/", "refs/worktree/", "refs/rewritten/", "refs/headsx/", "refs/a./",
+    };
+    static const char *const special[] = {"HEAD", "HEADS", "FETCH_HEAD", "A", "ORIG_HEAD", "B_"};
+    if (dice.once_in(5))
+        return dice.one_of(special);
+    std::string name = dice.one_of(places);
+    return name + std::to_string(dice.below(40));
+}
+
+std::string some_name(Dice &dice)
+{
+    std::string name = good_name(dice);
+    switch (dice.below(8)) {
+    case 0: // one byte changed
+        name[dice.below(name.size())] = char(dice.any());
+        break;
+    case 1: { // one byte more, of those that matter
+        char byte = dice.one_of("./_-aA0 ");
+        name.insert(name.begin() + long(dice.below(name.size() + 1)), byte);
+        break;
+    }
+    case 2:
+        name += dice.one_of(std::vector<std::string>{".lock", ".", "/", "..", "/a", ".lock/b", "./b", ".lockb"});
+        break;
+    case 3: // about as long as a name can be
+        name += std::string(dice.below(70), 'x');
+        break;
+    case 4:
+        name.resize(dice.below(name.size() + 1));
+        break;
+    }
+    return name;
+}
+
+// ---- stores
+
+static Value target(Dice &dice, const Store &s)
+{
+    return dice.once_in(3) ? link(dice.below(s.entries.size())) : object(object_number(dice));
+}
+
+static Row random_row(Dice &dice, const Store &s, uint16_t name)
+{
+    Row row;
+    row.name = name;
+    row.log_only = dice.once_in(3);
+    row.expected = uint8_t(dice.below(5));
+    if (row.expected >= 3)
+        row.expected_target = target(dice, s);
+    if (dice.once_in(3)) {
+        row.kind = DELETE;
+    } else {
+        row.force = dice.once_in(3);
+        row.message = uint16_t(dice.any());
+        bool same = row.expected == MUST_EXIST_AND_MATCH && dice.once_in(2);
+        row.new_target = same ? row.expected_target : target(dice, s);
+        if (row.expected_target.kind == LINK && row.expected_target.number != 0 && dice.once_in(3))
+            row.new_target = object(row.expected_target.number);
+    }
+    if (dice.once_in(2))
+        row.leaf_previous = dice.once_in(2) && row.new_target.kind == OBJECT ? row.new_target.number : dice.any();
+    return row;
+}
+
+static void prepare(Dice &dice, Store &s)
+{
+    s.mode = uint8_t(1 + dice.below(3));
+    std::vector<size_t> ancestors;
+    for (uint16_t n = 0; n < s.entries.size() && s.rows.size() < MOST_ROWS; n++) {
+        if (dice.once_in(3))
+            continue;
+        Row row = random_row(dice, s, n);
+        size_t parent = s.rows.empty() ? 0 : dice.below(s.rows.size()), above = 0;
+        if (!s.rows.empty() && dice.once_in(2) && ancestors[parent] < MOST_ANCESTORS) {
+            row.has_parent = 1;
+            row.parent = uint8_t(parent);
+            above = ancestors[parent] + 1;
+        }
+        s.rows.push_back(row);
+        ancestors.push_back(above);
+    }
+    for (size_t i = s.rows.size(); i-- > 1;) // names in any order; fields and parents stay
+        std::swap(s.rows[i].name, s.rows[dice.below(i + 1)].name);
+    take_locks(s);
+}
+
+Store random_store(Dice &dice, size_t names, size_t lines, bool with_rows)
+{
+    Store s;
+    s.setting = uint8_t(dice.below(3));
+    for (size_t tries = 0; tries < 4 * names && s.entries.size() < names; tries++)
+        answer_of(s, call::add_name(good_name(dice)));
+    while (s.entries.size() < names)
+        answer_of(s, call::add_name("refs/heads/more-" + std::to_string(s.entries.size())));
+    bool packs = !dice.once_in(3);
+    for (Entry &entry : s.entries) {
+        if (dice.once_in(2))
+            entry.loose = dice.once_in(4) ? Value{BROKEN, 0} : target(dice, s);
+        if (packs && dice.once_in(3) && is_packable(entry.name))
+            entry.packed = object_number(dice);
+        entry.lock = dice.once_in(4);
+    }
+    s.packed_lock = dice.once_in(3);
+    if (with_rows)
+        prepare(dice, s);
+    for (size_t i = 0; i < lines && names > 0; i++) {
+        uint64_t before = dice.once_in(3) ? 0 : object_number(dice);
+        s.lines.push_back({uint16_t(dice.below(names)), before, object_number(dice), uint16_t(1 + dice.below(65535)),
+                           uint16_t(dice.any())});
+    }
+    while (s.lines.size() + due_lines(s) > MOST_LINES)
+        s.lines.pop_back();
+    return s;
+}
