@@ -1,7 +1,10 @@
 #include "randoms.h"
 
 #include "calls.h"
+#include "edits.h"
 #include "samples.h"
+
+#include <algorithm>
 
 // ---- numbers and names
 
@@ -146,4 +149,127 @@ Store random_store(Dice &dice, size_t names, size_t lines, bool with_rows)
     while (s.lines.size() + due_lines(s) > MOST_LINES)
         s.lines.pop_back();
     return s;
+}
+
+Store ready_store(Dice &dice)
+{
+    const size_t some_names[] = {1, 2, 5, 9, 14, 20, 60, 256}, some_lines[] = {0, 0, 3, 20, 1016, 1020, 1022, 1023, 1024};
+    size_t names = dice.one_of(some_names), lines = dice.one_of(some_lines);
+    Store s = random_store(dice, names, lines, false);
+    bool held = dice.once_in(3);
+    for (Entry &entry : s.entries) {
+        if (!held || !dice.once_in(4))
+            entry.lock = FREE;
+        if (dice.once_in(4))
+            entry.loose = link(dice.below(names));
+    }
+    if (!dice.once_in(5))
+        s.packed_lock = FREE;
+    return s;
+}
+
+// ---- edit lists
+
+// What an edit is judged by if nothing hinders it: of an update through links, what the last of them leads to.
+static Value judged_value(const Store &s, const Edit &edit)
+{
+    size_t name = edit.name;
+    for (size_t hop = 0; hop < MOST_ANCESTORS && edit.deref && edit.kind == UPDATE && s.entries[name].loose.kind == LINK; hop++)
+        name = s.entries[name].loose.number;
+    return reading(s.entries[name]);
+}
+
+static void expect_something(Dice &dice, const Store &s, Edit &edit)
+{
+    if (dice.once_in(2))
+        return;
+    edit.expected = uint8_t(1 + dice.below(4));
+    Value there = judged_value(s, edit);
+    if (edit.expected >= MUST_EXIST_AND_MATCH)
+        edit.expected_target = there.kind == NONE || dice.once_in(4) ? target(dice, s) : there;
+    else if (edit.expected == MUST_EXIST && there.kind == NONE && !dice.once_in(4))
+        edit.expected = ANY;
+    else if (edit.expected == MUST_NOT_EXIST && edit.kind == DELETE && dice.once_in(2))
+        edit.expected = ANY;
+}
+
+static Edit random_edit(Dice &dice, const Store &s, uint16_t name)
+{
+    Edit edit;
+    edit.name = name;
+    edit.kind = dice.once_in(3) ? DELETE : UPDATE;
+    edit.deref = dice.once_in(2);
+    edit.log_only = dice.once_in(5);
+    if (edit.kind == UPDATE) {
+        edit.force = dice.once_in(4);
+        edit.message = uint16_t(dice.any());
+        Value there = judged_value(s, edit);
+        edit.new_target = there.kind != NONE && dice.once_in(3) ? there : target(dice, s);
+    }
+    expect_something(dice, s, edit);
+    return edit;
+}
+
+// Numbers of names, each of them once for the most part, and all of them registered for the most part.
+static std::vector<uint16_t> names_to_edit(Dice &dice, const Store &s)
+{
+    const size_t counts[] = {0, 1, 1, 1, 2, 2, 3, 4, 6, dice.below(34)};
+    size_t count = std::min(dice.one_of(counts), s.entries.size());
+    std::vector<uint16_t> all, names;
+    for (uint16_t n = 0; n < s.entries.size(); n++)
+        all.push_back(n);
+    for (size_t i = 0; i < count; i++) {
+        std::swap(all[i], all[i + dice.below(all.size() - i)]);
+        names.push_back(all[i]);
+    }
+    if (!names.empty() && dice.once_in(12))
+        names.push_back(dice.one_of(names));
+    return names;
+}
+
+static void change_bytes(Dice &dice, std::string &list)
+{
+    switch (dice.below(4)) {
+    case 0:
+        list.resize(dice.below(list.size() + 1));
+        break;
+    case 1: {
+        size_t more = 1 + dice.below(30);
+        list += std::string(more, char(dice.below(3)));
+        break;
+    }
+    case 2: // in the frame
+        list[dice.below(LIST_HEADER)] = char(dice.below(40));
+        break;
+    default: // anywhere
+        list[dice.below(list.size())] = char(dice.once_in(2) ? dice.any() : dice.below(6));
+    }
+}
+
+// A number in the list that is most likely no name's.
+static void change_number(Dice &dice, const Store &s, std::vector<Edit> &edits)
+{
+    if (edits.empty())
+        return;
+    Edit &edit = edits[dice.below(edits.size())];
+    uint64_t number = number_near(dice, s.entries.size());
+    if (edit.new_target.kind == LINK && dice.once_in(2))
+        edit.new_target.number = number;
+    else if (edit.expected_target.kind == LINK)
+        edit.expected_target.number = number;
+    else
+        edit.name = uint16_t(number);
+}
+
+std::string random_list(Dice &dice, const Store &store)
+{
+    std::vector<Edit> edits;
+    for (uint16_t name : names_to_edit(dice, store))
+        edits.push_back(random_edit(dice, store, name));
+    if (dice.once_in(10))
+        change_number(dice, store, edits);
+    std::string list = write_list(edits);
+    if (dice.once_in(10))
+        change_bytes(dice, list);
+    return list;
 }

@@ -1,4 +1,4 @@
-// What random checks are made of: numbers, names and stores.
+// What random checks are made of: numbers, names, stores and edit lists.
 #pragma once
 
 #include "dice.h"
@@ -16,3 +16,10 @@ std::string some_name(Dice &dice);
 
 // A good store, with a transaction or without.
 Store random_store(Dice &dice, size_t names, size_t lines, bool with_rows);
+
+// A good store on which many lists are prepared: few locks are foreign, many names are links, and the log is short, or full, or
+// nearly so. Nothing is prepared.
+Store ready_store(Dice &dice);
+
+// An edit list for a store. Most are well formed and name each name once; the others have a byte changed, or a few more or fewer.
+std::string random_list(Dice &dice, const Store &store);

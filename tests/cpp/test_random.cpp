@@ -1,16 +1,33 @@
-// Random calls, and random stores with random bytes changed.
+// Random calls, random edit lists, and random stores with random bytes changed.
+#include "preparing.h"
 #include "randoms.h"
-#include "samples.h"
 #include "tests.h"
-#include "world.h"
 
 #include <algorithm>
+#include <cstdio>
 
 // ---- random calls
+
+// Mostly a list in a good mode.
+static Call random_prepare(Dice &dice, const Store &s)
+{
+    uint64_t mode = dice.once_in(20) ? number_near(dice, 4) : 1 + dice.below(3);
+    return call::prepare(random_list(dice, s), mode);
+}
+
+// A call that makes a transaction, reads it, or gives it up.
+static Call random_transaction_call(Dice &dice, const Store &s)
+{
+    if (s.mode == 0 || dice.once_in(10))
+        return random_prepare(dice, s);
+    return dice.once_in(3) ? call::rollback() : call::read_row(number_near(dice, s.rows.size()));
+}
 
 static Call random_call(Dice &dice, const Store &s)
 {
     uint64_t names = s.entries.size();
+    if (dice.once_in(5))
+        return random_transaction_call(dice, s);
     switch (dice.below(22)) {
     case 0:
         return dice.once_in(4) ? call::start(number_near(dice, 3)) : call::start(3 + dice.below(300));
@@ -58,24 +75,57 @@ static Call random_call(Dice &dice, const Store &s)
     }
 }
 
+// How often each number was given.
+struct Tally {
+    size_t given[23] = {};
+
+    // Prints it, and checks that each of these numbers was given.
+    void all_met(const char *what, const std::vector<size_t> &numbers) const
+    {
+        std::printf("%s gave", what);
+        for (size_t number = 0; number < std::size(given); number++)
+            if (given[number] > 0)
+                std::printf(" %zu: %zu", number, given[number]);
+        std::printf("\n");
+        for (size_t number : numbers)
+            check(given[number] > 0, std::string(what) + " never gave " + std::to_string(number));
+    }
+};
+
 // Two regions at a time, in turns: a call leaves nothing behind that the next one would see.
 static void test_walks()
 {
-    size_t given[23] = {};
-    for (uint64_t walk = 0; walk < 40; walk++) {
+    Tally calls, preparations;
+    for (uint64_t walk = 0; walk < 60; walk++) {
         Dice dice(walk);
         auto begin = [&](bool with_rows) {
             const size_t some_names[] = {0, 1, 3, 8, 12, 25, 40, 255}, some_lines[] = {0, 1, 9, 50, 1024};
             size_t names = dice.one_of(some_names), lines = dice.one_of(some_lines);
             return random_store(dice, names, lines, with_rows);
         };
-        World first(begin(dice.once_in(2))), second(begin(true));
+        World first(dice.once_in(3) ? begin(false) : ready_store(dice)), second(begin(true));
         for (int step = 0; step < 200; step++)
-            for (World *world : {&first, &second})
-                given[world->agrees(random_call(dice, world->store())).number]++;
+            for (World *world : {&first, &second}) {
+                const Call call = random_call(dice, world->store());
+                (call.op == Op::prepare ? preparations : calls).given[world->agrees(call).number]++;
+            }
     }
-    for (size_t number : {0, 2, 3, 15, 18, 19, 20, 21, 22})
-        check(given[number] > 0, "no random call gave " + std::to_string(number));
+    calls.all_met("random calls but prepare", {0, 2, 3, 15, 18, 19, 20, 21, 22});
+    preparations.all_met("prepare among random calls", {0, 2, 3, 4, 6, 7, 8, 9, 10, 11, 12, 13, 14, 15});
+}
+
+// Lists on stores where many of them are prepared. The rows are read, and rolling back leaves the region from before.
+static void test_preparations()
+{
+    Tally preparations;
+    for (uint64_t round = 0; round < 250; round++) {
+        Dice dice(5000 + round);
+        World world(ready_store(dice));
+        for (int list = 0; list < 20; list++)
+            preparations.given[prepare_and_roll_back(world, random_prepare(dice, world.store()))]++;
+    }
+    preparations.all_met("prepare on random stores", {0, 2, 3, 4, 6, 7, 8, 9, 10, 11, 12, 13, 14});
+    check(preparations.given[0] > 1500, "many random lists are prepared");
 }
 
 // A byte of a slot that is in use, or of the first that is not.
@@ -121,5 +171,6 @@ static void test_changed_bytes()
 void test_random()
 {
     test_walks();
+    test_preparations();
     test_changed_bytes();
 }
