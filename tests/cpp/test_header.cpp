@@ -11,10 +11,10 @@
 extern "C" uint64_t first_name_from_c(uint8_t *region, size_t region_len, uint32_t *number);
 extern "C" size_t list_from_c(uint8_t *list);
 
-#if DEHLBAZIN_VERSION != 1000
-#error "the version is not 0.1.0, or #if cannot read it"
+#if DEHLBAZIN_VERSION != 2000
+#error "the version is not 0.2.0, or #if cannot read it"
 #endif
-static_assert(DEHLBAZIN_VERSION_MAJOR == 0 && DEHLBAZIN_VERSION_MINOR == 1 && DEHLBAZIN_VERSION_PATCH == 0);
+static_assert(DEHLBAZIN_VERSION_MAJOR == 0 && DEHLBAZIN_VERSION_MINOR == 2 && DEHLBAZIN_VERSION_PATCH == 0);
 static_assert(DEHLBAZIN_LAYOUT_VERSION == 1);
 static_assert(DEHLBAZIN_REGION_SIZE == REGION && DEHLBAZIN_ANSWER_SIZE == 16 * 8);
 
