@@ -16,8 +16,8 @@
  *
  * What no call can test, so that the caller must see to it:
  *   - that each pointer is good for its length. (With length 0 it may be null. It need not be aligned.)
- *   - that region, name and record lie apart. The bytes that dehlbazin_name_bytes points out lie in the region, so a
- *     name got from it is copied before it is passed to dehlbazin_add_name.
+ *   - that region, name or list, and record lie apart. The bytes that dehlbazin_name_bytes points out lie in the region, so
+ *     a name got from it is copied before it is passed to dehlbazin_add_name.
  *   - that calls on one region come one after the other. (Calls on different regions may come at the same time: no call
  *     has state of its own, or keeps a pointer when it returns.)
  */
@@ -28,10 +28,10 @@
 #include <stdint.h>
 
 /* ---- the version of this interface: of this header and of the archive's entries. Each part is below 1000, so that a later
- * version is a greater number: 0.1.0 is 1000, and 1.2.3 would be 1002003. #if can test it. */
+ * version is a greater number: 0.2.0 is 2000, and 1.2.3 would be 1002003. #if can test it. */
 
 #define DEHLBAZIN_VERSION_MAJOR 0
-#define DEHLBAZIN_VERSION_MINOR 1
+#define DEHLBAZIN_VERSION_MINOR 2
 #define DEHLBAZIN_VERSION_PATCH 0
 #define DEHLBAZIN_VERSION                                                                                                    \
     (DEHLBAZIN_VERSION_MAJOR * 1000000 + DEHLBAZIN_VERSION_MINOR * 1000 + DEHLBAZIN_VERSION_PATCH)
@@ -45,7 +45,8 @@
 #define DEHLBAZIN_REGION_SIZE 49549
 #define DEHLBAZIN_ANSWER_SIZE 128
 
-/* ---- the numbers that calls return. 4 to 14, 16 and 17 belong to prepare and commit, which are not here yet. */
+/* ---- the numbers that calls return. 4 to 14 are given by prepare alone, and 5 by nothing: no list comes to more than 160
+ * rows. 16 and 17 belong to commit, which is not here yet. */
 
 #define DEHLBAZIN_DONE 0
 #define DEHLBAZIN_BAD_REGION 1                   /* the region is not a good one, or the record has the wrong size */
@@ -92,7 +93,7 @@
 #define DEHLBAZIN_MODE_UPDATES 2             /* updates to objects are packed too */
 #define DEHLBAZIN_MODE_UPDATES_REMOVE_LOOSE 3 /* and their loose values are removed */
 
-/* ---- what a row says: its kind, what it writes, and what it expects to find */
+/* ---- what an edit and a row say: their kind, what they write, and what they expect to find */
 
 #define DEHLBAZIN_ROW_UPDATE 1
 #define DEHLBAZIN_ROW_DELETE 2
@@ -106,12 +107,43 @@
 #define DEHLBAZIN_EXPECTED_MUST_EXIST_AND_MATCH 3
 #define DEHLBAZIN_EXPECTED_EXISTING_MUST_MATCH 4
 
+/* ---- an edit list, which prepare takes: a header, and behind it records of one size, one for each edit. Numbers are
+ * big-endian. Update of name 0 through its link to object 7, with message 3, is
+ *   01 00 1C 01 | 01 01 00 00 00 | 00 0000000000000000 | 01 0000000000000007 | 0000 | 0003 */
+
+#define DEHLBAZIN_LIST_VERSION 1
+#define DEHLBAZIN_LIST_HEADER_SIZE 4
+#define DEHLBAZIN_LIST_EDIT_SIZE 27
+#define DEHLBAZIN_LIST_MOST_EDITS 32
+#define DEHLBAZIN_LIST_MOST_BYTES (DEHLBAZIN_LIST_HEADER_SIZE + DEHLBAZIN_LIST_EDIT_SIZE * DEHLBAZIN_LIST_MOST_EDITS)
+
+/* offsets in the header */
+#define DEHLBAZIN_LIST_AT_VERSION 0 /* 1 byte */
+#define DEHLBAZIN_LIST_AT_LENGTH 1  /* 2 bytes: how many bytes follow these two, 1 and 27 for each edit */
+#define DEHLBAZIN_LIST_AT_COUNT 3   /* 1 byte: how many edits, 0 to 32 */
+
+/* offsets in a record. The number of a name must fit in its 2 bytes: one above 65535 is no name's, and shortened it would be
+ * another's, which no call can tell. */
+#define DEHLBAZIN_EDIT_AT_KIND 0            /* 1 byte: DEHLBAZIN_ROW_UPDATE or DEHLBAZIN_ROW_DELETE */
+#define DEHLBAZIN_EDIT_AT_DEREF 1           /* 1 byte: 1 to follow the name's link, else 0 */
+#define DEHLBAZIN_EDIT_AT_LOG 2             /* 1 byte: DEHLBAZIN_LOG_.. */
+#define DEHLBAZIN_EDIT_AT_FORCE 3           /* 1 byte: 1 to log any name unless the setting is never, else 0; 0 with delete */
+#define DEHLBAZIN_EDIT_AT_EXPECTED 4        /* 1 byte: DEHLBAZIN_EXPECTED_.. */
+#define DEHLBAZIN_EDIT_AT_EXPECTED_KIND 5   /* 1 byte: object or link with the two expectations that match, else none */
+#define DEHLBAZIN_EDIT_AT_EXPECTED_NUMBER 6 /* 8 bytes: an object's with object, a name's with link, 0 with none */
+#define DEHLBAZIN_EDIT_AT_NEW_KIND 14       /* 1 byte: object or link with update, none with delete */
+#define DEHLBAZIN_EDIT_AT_NEW_NUMBER 15     /* 8 bytes: as with the expected number */
+#define DEHLBAZIN_EDIT_AT_NAME 23           /* 2 bytes */
+#define DEHLBAZIN_EDIT_AT_MESSAGE 25        /* 2 bytes; 0 with delete */
+
 /* ---- places of the answer record, by the call that fills them when it is done */
 
 #define DEHLBAZIN_ADD_NAME_NUMBER 0
 
 #define DEHLBAZIN_NAME_BYTES_OFFSET 0
 #define DEHLBAZIN_NAME_BYTES_LENGTH 1
+
+#define DEHLBAZIN_PREPARE_ROWS 0
 
 #define DEHLBAZIN_ROLLBACK_ROWS 0
 
@@ -137,8 +169,33 @@
 #define DEHLBAZIN_READ_ROW_PARENT 11
 #define DEHLBAZIN_READ_ROW_LEAF_PREVIOUS 12
 
-/* the place that DEHLBAZIN_NOT_REGISTERED fills, whatever the call */
+/* ---- places of the answer record, by the number of a refusal that fills them, whatever the call */
+
 #define DEHLBAZIN_NOT_REGISTERED_NUMBER 0
+
+#define DEHLBAZIN_MULTIPLE_EDITS_NAME 0
+
+#define DEHLBAZIN_LOCK_ACQUIRE_NAME 0 /* the name of the edit that led to the locked name */
+
+#define DEHLBAZIN_DELETE_REFERENCE_MUST_EXIST_NAME 0
+
+#define DEHLBAZIN_MUST_NOT_EXIST_NAME 0
+#define DEHLBAZIN_MUST_NOT_EXIST_ACTUAL_KIND 1
+#define DEHLBAZIN_MUST_NOT_EXIST_ACTUAL_NUMBER 2
+#define DEHLBAZIN_MUST_NOT_EXIST_NEW_KIND 3
+#define DEHLBAZIN_MUST_NOT_EXIST_NEW_NUMBER 4
+
+#define DEHLBAZIN_MUST_EXIST_NAME 0
+#define DEHLBAZIN_MUST_EXIST_EXPECTED_KIND 1 /* object, with number 0, where any value was expected */
+#define DEHLBAZIN_MUST_EXIST_EXPECTED_NUMBER 2
+
+#define DEHLBAZIN_REFERENCE_OUT_OF_DATE_NAME 0
+#define DEHLBAZIN_REFERENCE_OUT_OF_DATE_EXPECTED_KIND 1
+#define DEHLBAZIN_REFERENCE_OUT_OF_DATE_EXPECTED_NUMBER 2
+#define DEHLBAZIN_REFERENCE_OUT_OF_DATE_ACTUAL_KIND 3
+#define DEHLBAZIN_REFERENCE_OUT_OF_DATE_ACTUAL_NUMBER 4
+
+#define DEHLBAZIN_DELETE_MUST_NOT_EXIST_NAME 0
 
 /* What stands at place i of an answer record, which has DEHLBAZIN_ANSWER_SIZE bytes. The last place is 15: past it every i
  * gives 0, and nothing is read. */
@@ -211,6 +268,30 @@ uint32_t dehlbazin_lock_packed(uint8_t *region, size_t region_len, uint8_t *answ
  * refused: 20 its lock is not foreign.
  * places: none. */
 uint32_t dehlbazin_unlock_packed(uint8_t *region, size_t region_len, uint8_t *answer, size_t answer_len);
+
+/* Prepares a transaction: the edits become rows, in rounds, each link that an edit follows making one row more; each row's
+ * name is judged against what the row expects; and the locks that the rows keep become ours. Nothing else of the store
+ * changes: the values and the log are commit's to write.
+ * list: an edit list, as above; mode: DEHLBAZIN_MODE_..
+ * refused, in this order:
+ *   15 a transaction is prepared;
+ *   2 the list or the mode is malformed;
+ *   3 no such name, to edit, to link to or to expect a link to (place 0 the number, the first in the list by its place);
+ *   4 links are still followed in a fifth round;
+ *   6 two rows have one name (place 0 it, or of several such names the least in byte order);
+ *   7 a row counts for the packed table, whose lock is foreign;
+ *   then row by row, the lock first:
+ *   8 the name's lock is foreign (place 0 the name of the row's topmost ancestor, the edit that it came from);
+ *   9 a delete that expects something finds nothing (place 0 the name);
+ *   10 an update that expects nothing finds something else than its target (places 0 the name, 1 and 2 what is there, 3 and 4
+ *   the new target);
+ *   11 an update that expects something finds nothing (places 0 the name, 1 and 2 what was expected: object 0 if any value);
+ *   12 another value than the expected one is there (places 0 the name, 1 and 2 what was expected, 3 and 4 what is there);
+ *   13 a delete that expects nothing (place 0 the name);
+ *   and after all rows 14 the log has no room for the lines that the rows are due.
+ * places: 0 how many rows, 0 to 160. */
+uint32_t dehlbazin_prepare(uint8_t *region, size_t region_len, const uint8_t *list, size_t list_len, uint64_t mode,
+                           uint8_t *answer, size_t answer_len);
 
 /* Gives up the prepared transaction and frees its locks; foreign locks stay. Done too where nothing is prepared.
  * refused: nothing more.

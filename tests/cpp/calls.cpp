@@ -1,6 +1,8 @@
 #include "calls.h"
 
+#include "edits.h"
 #include "image.h"
+#include "prepare.h"
 
 #include <algorithm>
 
@@ -12,12 +14,27 @@ Answer answer(uint32_t number, const std::vector<uint64_t> &places)
     return given;
 }
 
+// Bytes in pairs of hexadecimal digits. Of many only the first ones.
+static std::string in_digits(std::string_view bytes)
+{
+    static const size_t MOST = LIST_HEADER + 4 * RECORD;
+    static const char digits[] = "0123456789abcdef";
+    std::string text;
+    for (unsigned char byte : bytes.substr(0, MOST)) {
+        text += digits[byte / 16];
+        text += digits[byte % 16];
+    }
+    return bytes.size() <= MOST ? text : text + "..";
+}
+
 std::string describe(const Call &call)
 {
     static const char *const names[] = {"start", "add_name", "name_bytes", "load_loose", "load_packed", "lock_name",
-                                        "unlock_name", "lock_packed", "unlock_packed", "rollback", "read_name", "read_line",
-                                        "read_row"};
+                                        "unlock_name", "lock_packed", "unlock_packed", "prepare", "rollback", "read_name",
+                                        "read_line", "read_row"};
     std::string text = names[size_t(call.op)];
+    if (call.op == Op::prepare)
+        return text + " '" + in_digits(call.bytes) + "' in mode " + std::to_string(call.a);
     if (call.op == Op::add_name)
         return text + " '" + (call.bytes.size() <= 80 ? call.bytes : call.bytes.substr(0, 80) + "..") + "'";
     size_t numbers = 1;
@@ -156,6 +173,8 @@ Answer answer_of(Store &store, const Call &call)
         return turn(store.packed_lock, FREE, FOREIGN);
     case Op::unlock_packed:
         return turn(store.packed_lock, FOREIGN, FREE);
+    case Op::prepare:
+        return prepare(store, call.bytes, call.a);
     case Op::rollback:
         return rollback(store);
     case Op::read_name: {

@@ -1,4 +1,4 @@
-// The 13 calls on a store, from docs/SPEC.md: the number and the places that each gives, and what it does to the store.
+// The fourteen calls on a store, from docs/SPEC.md: the number and the places that each gives, and what it does to the store.
 #pragma once
 
 #include "store.h"
@@ -15,13 +15,14 @@ enum class Op {
     unlock_name,
     lock_packed,
     unlock_packed,
+    prepare,
     rollback,
     read_name,
     read_line,
     read_row,
 };
 
-// A call: its bytes, if it takes any, or its numbers in order.
+// A call: its bytes, if it takes any, and its numbers in order.
 struct Call {
     Op op;
     std::string bytes;
@@ -40,6 +41,7 @@ inline Call lock_name(uint64_t name) { return {Op::lock_name, {}, name}; }
 inline Call unlock_name(uint64_t name) { return {Op::unlock_name, {}, name}; }
 inline Call lock_packed() { return {Op::lock_packed, {}}; }
 inline Call unlock_packed() { return {Op::unlock_packed, {}}; }
+inline Call prepare(std::string_view list, uint64_t mode) { return {Op::prepare, std::string(list), mode}; }
 inline Call rollback() { return {Op::rollback, {}}; }
 inline Call read_name(uint64_t name) { return {Op::read_name, {}, name}; }
 inline Call read_line(uint64_t name, uint64_t place) { return {Op::read_line, {}, name, place}; }

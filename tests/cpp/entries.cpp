@@ -30,14 +30,15 @@ void watch_for_crashes(const char *part)
         std::signal(signal, crashed);
 }
 
-static uint32_t add_name(const std::string &name, uint8_t *region, size_t region_len, uint8_t *answer, size_t answer_len)
+// Lends a call its own bytes, which it only reads.
+template <typename Made> static uint32_t lend(const std::string &text, const Made &made)
 {
-    if (name.empty())
-        return dehlbazin_add_name(region, region_len, nullptr, 0, answer, answer_len);
-    const Bytes bytes(name.begin(), name.end());
+    if (text.empty())
+        return made(nullptr, 0);
+    const Bytes bytes(text.begin(), text.end());
     Lent lent(bytes);
-    uint32_t number = dehlbazin_add_name(region, region_len, lent.data(), lent.size(), answer, answer_len);
-    return lent.holds(bytes) && lent.is_alone() ? number : ~uint32_t(0); // a name is only read
+    uint32_t number = made(lent.data(), lent.size());
+    return lent.holds(bytes) && lent.is_alone() ? number : ~uint32_t(0);
 }
 
 static uint32_t make(const Call &call, uint8_t *region, size_t region_len, uint8_t *answer, size_t answer_len)
@@ -46,7 +47,9 @@ static uint32_t make(const Call &call, uint8_t *region, size_t region_len, uint8
     case Op::start:
         return dehlbazin_start(region, region_len, call.a, answer, answer_len);
     case Op::add_name:
-        return add_name(call.bytes, region, region_len, answer, answer_len);
+        return lend(call.bytes, [&](const uint8_t *name, size_t name_len) {
+            return dehlbazin_add_name(region, region_len, name, name_len, answer, answer_len);
+        });
     case Op::name_bytes:
         return dehlbazin_name_bytes(region, region_len, call.a, answer, answer_len);
     case Op::load_loose:
@@ -61,6 +64,10 @@ static uint32_t make(const Call &call, uint8_t *region, size_t region_len, uint8
         return dehlbazin_lock_packed(region, region_len, answer, answer_len);
     case Op::unlock_packed:
         return dehlbazin_unlock_packed(region, region_len, answer, answer_len);
+    case Op::prepare:
+        return lend(call.bytes, [&](const uint8_t *list, size_t list_len) {
+            return dehlbazin_prepare(region, region_len, list, list_len, call.a, answer, answer_len);
+        });
     case Op::rollback:
         return dehlbazin_rollback(region, region_len, answer, answer_len);
     case Op::read_name:

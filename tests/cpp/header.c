@@ -1,5 +1,7 @@
-/* The header in C: a call, its number and a place of its answer. */
+/* The header in C: a call, its number and a place of its answer; and an edit list, built by the header's constants. */
 #include "dehlbazin.h"
+
+#include <string.h>
 
 uint64_t first_name_from_c(uint8_t *region, size_t region_len, uint32_t *number)
 {
@@ -7,4 +9,42 @@ uint64_t first_name_from_c(uint8_t *region, size_t region_len, uint32_t *number)
     uint8_t answer[DEHLBAZIN_ANSWER_SIZE];
     *number = dehlbazin_add_name(region, region_len, name, sizeof name, answer, sizeof answer);
     return dehlbazin_place(answer, DEHLBAZIN_ADD_NAME_NUMBER);
+}
+
+static void put(uint8_t *at, uint64_t number, size_t bytes)
+{
+    while (bytes-- > 0) {
+        at[bytes] = (uint8_t)number;
+        number >>= 8;
+    }
+}
+
+/* An update that uses every field, and a delete. Gives the size of the list. */
+size_t list_from_c(uint8_t *list)
+{
+    const size_t count = 2, size = DEHLBAZIN_LIST_HEADER_SIZE + count * DEHLBAZIN_LIST_EDIT_SIZE;
+    uint8_t *edit = list + DEHLBAZIN_LIST_HEADER_SIZE;
+    memset(list, 0, size);
+    list[DEHLBAZIN_LIST_AT_VERSION] = DEHLBAZIN_LIST_VERSION;
+    put(list + DEHLBAZIN_LIST_AT_LENGTH, size - DEHLBAZIN_LIST_AT_COUNT, 2);
+    list[DEHLBAZIN_LIST_AT_COUNT] = (uint8_t)count;
+
+    edit[DEHLBAZIN_EDIT_AT_KIND] = DEHLBAZIN_ROW_UPDATE;
+    edit[DEHLBAZIN_EDIT_AT_DEREF] = 1;
+    edit[DEHLBAZIN_EDIT_AT_LOG] = DEHLBAZIN_LOG_AND_REFERENCE;
+    edit[DEHLBAZIN_EDIT_AT_FORCE] = 1;
+    edit[DEHLBAZIN_EDIT_AT_EXPECTED] = DEHLBAZIN_EXPECTED_EXISTING_MUST_MATCH;
+    edit[DEHLBAZIN_EDIT_AT_EXPECTED_KIND] = DEHLBAZIN_KIND_LINK;
+    put(edit + DEHLBAZIN_EDIT_AT_EXPECTED_NUMBER, 0x1112131415161718u, 8);
+    edit[DEHLBAZIN_EDIT_AT_NEW_KIND] = DEHLBAZIN_KIND_OBJECT;
+    put(edit + DEHLBAZIN_EDIT_AT_NEW_NUMBER, 0x0102030405060708u, 8);
+    put(edit + DEHLBAZIN_EDIT_AT_NAME, 258, 2);
+    put(edit + DEHLBAZIN_EDIT_AT_MESSAGE, 0x2122, 2);
+
+    edit += DEHLBAZIN_LIST_EDIT_SIZE;
+    edit[DEHLBAZIN_EDIT_AT_KIND] = DEHLBAZIN_ROW_DELETE;
+    edit[DEHLBAZIN_EDIT_AT_LOG] = DEHLBAZIN_LOG_ONLY;
+    edit[DEHLBAZIN_EDIT_AT_EXPECTED] = DEHLBAZIN_EXPECTED_MUST_EXIST;
+    put(edit + DEHLBAZIN_EDIT_AT_NAME, 3, 2);
+    return size;
 }

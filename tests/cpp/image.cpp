@@ -1,28 +1,12 @@
 #include "image.h"
 
+#include "fields.h"
+
 #include <algorithm>
 #include <cstdlib>
 #include <cstring>
 
 // ---- writing
-
-// Writes fields one after the other.
-struct Pen {
-    uint8_t *at;
-
-    void number(uint64_t value, size_t bytes)
-    {
-        for (size_t i = bytes; i-- > 0; value >>= 8)
-            at[i] = uint8_t(value);
-        at += bytes;
-    }
-
-    void value(const Value &v)
-    {
-        number(v.kind, 1);
-        number(v.number, 8);
-    }
-};
 
 static void write_row(Pen pen, const Row &row)
 {
@@ -83,28 +67,6 @@ Bytes encode(const Store &store)
 }
 
 // ---- reading
-
-// Reads fields one after the other.
-struct Eye {
-    const uint8_t *at;
-
-    uint64_t number(size_t bytes)
-    {
-        uint64_t value = 0;
-        for (; bytes > 0; bytes--)
-            value = value << 8 | *at++;
-        return value;
-    }
-
-    // A field of the type that takes it.
-    template <typename Field> void into(Field &field) { field = Field(number(sizeof field)); }
-
-    void into(Value &value)
-    {
-        into(value.kind);
-        into(value.number);
-    }
-};
 
 static Row read_row(Eye eye)
 {

@@ -33,6 +33,12 @@ int main(int count, char **words)
     part("log", test_log);
     part("prepared", test_prepared);
     part("rules", test_rules);
+    part("prepare_list", test_prepare_list);
+    part("prepare_splits", test_prepare_splits);
+    part("prepare_turns", test_prepare_turns);
+    part("prepare_kept", test_prepare_kept);
+    part("prepare_room", test_prepare_room);
+    part("prepare_marked", test_prepare_marked);
     part("random", test_random);
     part("flips", [=] { test_flips(every); });
     return closing() ? 0 : 1;

@@ -51,11 +51,94 @@ Row deletion(uint16_t name)
     return row;
 }
 
-Row found(Row row, const Value &target)
+Row found(Row row, const Value &target) { return expecting(row, MUST_EXIST_AND_MATCH, target); }
+
+Row expecting(Row row, uint8_t expected, const Value &target)
 {
-    row.expected = MUST_EXIST_AND_MATCH;
+    row.expected = expected;
     row.expected_target = target;
     return row;
+}
+
+Row log_only(Row row)
+{
+    row.log_only = 1;
+    return row;
+}
+
+Row child_of(uint8_t parent, Row row)
+{
+    row.has_parent = 1;
+    row.parent = parent;
+    return row;
+}
+
+Row with_leaf(Row row, uint64_t leaf_previous)
+{
+    row.leaf_previous = leaf_previous;
+    return row;
+}
+
+Edit updating(uint16_t name, const Value &target)
+{
+    Edit edit;
+    edit.kind = UPDATE;
+    edit.name = name;
+    edit.new_target = target;
+    return edit;
+}
+
+Edit deleting(uint16_t name)
+{
+    Edit edit;
+    edit.kind = DELETE;
+    edit.name = name;
+    return edit;
+}
+
+Edit through(Edit edit)
+{
+    edit.deref = 1;
+    return edit;
+}
+
+Edit log_only(Edit edit)
+{
+    edit.log_only = 1;
+    return edit;
+}
+
+Edit expecting(Edit edit, uint8_t expected, const Value &target)
+{
+    edit.expected = expected;
+    edit.expected_target = target;
+    return edit;
+}
+
+Store marked()
+{
+    Store s;
+    s.setting = 1;
+    s.entries = {{"HEAD", link(1), 0, FREE}, {"refs/heads/aisle", {}, 0, FREE}};
+    return s;
+}
+
+Store plain(size_t names)
+{
+    Store s;
+    s.setting = 1;
+    for (size_t n = 0; n < names; n++)
+        s.entries.push_back({"refs/heads/" + std::to_string(n), {}, 0, FREE});
+    return s;
+}
+
+Store chain(size_t hops, const Value &end)
+{
+    Store s = plain(hops + 1);
+    for (size_t n = 0; n < hops; n++)
+        s.entries[n].loose = link(n + 1);
+    s.entries[hops].loose = end;
+    return s;
 }
 
 Store prepared()

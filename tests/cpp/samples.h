@@ -1,7 +1,7 @@
 // Stores that the checks begin with.
 #pragma once
 
-#include "store.h"
+#include "edits.h"
 
 // Numbers that a shorter number would take for k, and a few more that are registered nowhere.
 std::vector<uint64_t> too_large(uint64_t k);
@@ -16,9 +16,32 @@ Store prepared();
 // log-only, and an update that is log-only. What is kept and opened depends on the mode.
 Store prepared_in(uint8_t mode);
 
+// The store of the marked examples: HEAD links to refs/heads/aisle, which has no value. Setting 1.
+Store marked();
+
+// Names that link each to the next, so many times, and a last one with this value. Setting 1.
+Store chain(size_t hops, const Value &end);
+
+// So many names without values, all under refs/heads/. Setting 1.
+Store plain(size_t names);
+
 // An update row.
 Row update(uint16_t name, const Value &target);
 Row deletion(uint16_t name);
 
-// A row of the same kind that found this when it was prepared.
+// The same row that found this when it was prepared, that found nothing and still expects this, that writes the log only, that
+// has this parent, and that has this leaf-previous.
 Row found(Row row, const Value &target);
+Row expecting(Row row, uint8_t expected, const Value &target = {});
+Row log_only(Row row);
+Row child_of(uint8_t parent, Row row);
+Row with_leaf(Row row, uint64_t leaf_previous);
+
+// Edits that follow no link, expect anything, and write the reference and its log.
+Edit updating(uint16_t name, const Value &target);
+Edit deleting(uint16_t name);
+
+// The same edit through the name's link, of the log only, and with something expected.
+Edit through(Edit edit);
+Edit log_only(Edit edit);
+Edit expecting(Edit edit, uint8_t expected, const Value &target = {});

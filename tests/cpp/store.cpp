@@ -104,11 +104,13 @@ bool keeps_lock(const Store &store, const Row &row)
     return row.kind == DELETE || direct || row.new_target.kind == LINK || row.new_target != existing(row);
 }
 
+bool counts(const Store &store, const Row &row) { return !row.log_only && is_packable(name_of(store, row)); }
+
 bool opens_packed(const Store &store)
 {
     bool counting = false, counting_update = false;
     for (const Row &row : store.rows)
-        if (!row.log_only && is_packable(name_of(store, row))) {
+        if (counts(store, row)) {
             counting = true;
             counting_update |= row.kind == UPDATE && row.new_target.kind == OBJECT;
         }

@@ -75,7 +75,8 @@ bool is_packable(std::string_view name);
 // What a name reads.
 Value reading(const Entry &entry);
 
-// R2: the rows open the packed table. R4: the row keeps its lock. How many lines the rows are due.
+// R2: the row counts; the rows open the packed table. R4: the row keeps its lock. How many lines the rows are due.
+bool counts(const Store &store, const Row &row);
 bool opens_packed(const Store &store);
 bool keeps_lock(const Store &store, const Row &row);
 size_t due_lines(const Store &store);

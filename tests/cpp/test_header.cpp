@@ -1,5 +1,6 @@
 // The header: its constants are those of docs/SPEC.md, docs/LAYOUT.md and docs/ABI.md, its reader of places is right, and it serves
 // C.
+#include "calls.h"
 #include "check.h"
 #include "dehlbazin.h"
 #include "image.h"
@@ -8,11 +9,12 @@
 #include "tests.h"
 
 extern "C" uint64_t first_name_from_c(uint8_t *region, size_t region_len, uint32_t *number);
+extern "C" size_t list_from_c(uint8_t *list);
 
-#if DEHLBAZIN_VERSION != 1000
-#error "the version is not 0.1.0, or #if cannot read it"
+#if DEHLBAZIN_VERSION != 2000
+#error "the version is not 0.2.0, or #if cannot read it"
 #endif
-static_assert(DEHLBAZIN_VERSION_MAJOR == 0 && DEHLBAZIN_VERSION_MINOR == 1 && DEHLBAZIN_VERSION_PATCH == 0);
+static_assert(DEHLBAZIN_VERSION_MAJOR == 0 && DEHLBAZIN_VERSION_MINOR == 2 && DEHLBAZIN_VERSION_PATCH == 0);
 static_assert(DEHLBAZIN_LAYOUT_VERSION == 1);
 static_assert(DEHLBAZIN_REGION_SIZE == REGION && DEHLBAZIN_ANSWER_SIZE == 16 * 8);
 
@@ -35,6 +37,16 @@ static_assert(DEHLBAZIN_EXPECTED_ANY == ANY && DEHLBAZIN_EXPECTED_MUST_EXIST == 
 static_assert(DEHLBAZIN_EXPECTED_MUST_NOT_EXIST == MUST_NOT_EXIST);
 static_assert(DEHLBAZIN_EXPECTED_MUST_EXIST_AND_MATCH == MUST_EXIST_AND_MATCH);
 static_assert(DEHLBAZIN_EXPECTED_EXISTING_MUST_MATCH == EXISTING_MUST_MATCH);
+
+static_assert(DEHLBAZIN_LIST_VERSION == 1 && DEHLBAZIN_LIST_HEADER_SIZE == LIST_HEADER && DEHLBAZIN_LIST_EDIT_SIZE == RECORD);
+static_assert(DEHLBAZIN_LIST_MOST_EDITS == MOST_EDITS && DEHLBAZIN_LIST_MOST_BYTES == 868);
+static_assert(DEHLBAZIN_LIST_AT_VERSION == 0 && DEHLBAZIN_LIST_AT_LENGTH == 1 && DEHLBAZIN_LIST_AT_COUNT == 3);
+static_assert(DEHLBAZIN_EDIT_AT_KIND == AT_EDIT_KIND && DEHLBAZIN_EDIT_AT_DEREF == AT_DEREF);
+static_assert(DEHLBAZIN_EDIT_AT_LOG == AT_LOG && DEHLBAZIN_EDIT_AT_FORCE == AT_FORCE);
+static_assert(DEHLBAZIN_EDIT_AT_EXPECTED == AT_EXPECTED && DEHLBAZIN_EDIT_AT_EXPECTED_KIND == AT_EXPECTED_TARGET);
+static_assert(DEHLBAZIN_EDIT_AT_EXPECTED_NUMBER == AT_EXPECTED_TARGET + 1 && DEHLBAZIN_EDIT_AT_NEW_KIND == AT_NEW_TARGET);
+static_assert(DEHLBAZIN_EDIT_AT_NEW_NUMBER == AT_NEW_TARGET + 1 && DEHLBAZIN_EDIT_AT_NAME == AT_NAME);
+static_assert(DEHLBAZIN_EDIT_AT_MESSAGE == AT_MESSAGE && AT_MESSAGE + 2 == RECORD);
 
 // The record ends where nothing may be read, and no place but the first sixteen is read: not even where eight times the place is
 // a small number again.
@@ -104,11 +116,75 @@ static void test_places()
     check(place_of(number, answer, DEHLBAZIN_ROLLBACK_ROWS) == 4, "the rows given up");
 }
 
+// A list on a store, through the header, with the number that it must give. Leaves the record.
+static Bytes prepare_record(Store store, const std::vector<Edit> &edits, uint32_t number)
+{
+    Bytes region = encode(store), answer(DEHLBAZIN_ANSWER_SIZE);
+    const std::string list = write_list(edits);
+    const uint8_t *bytes = reinterpret_cast<const uint8_t *>(list.data());
+    uint32_t given = dehlbazin_prepare(region.data(), region.size(), bytes, list.size(), DEHLBAZIN_MODE_DELETIONS, answer.data(),
+                                       answer.size());
+    check(given == number, "prepare gives " + std::to_string(given) + " instead of " + std::to_string(number));
+    return answer;
+}
+
+// The places of prepare, and of its refusals.
+static void test_prepare_places()
+{
+    Store store = plain(8);
+    store.entries[4].loose = object(44);
+    store.entries[5].lock = FOREIGN;
+    auto places = [&](const Edit &edit, uint32_t number, const std::vector<std::pair<size_t, uint64_t>> &stated) {
+        const Bytes answer = prepare_record(store, {edit}, number);
+        for (const auto &[place, value] : stated)
+            check(dehlbazin_place(answer.data(), place) == value,
+                  "place " + std::to_string(place) + " of " + std::to_string(number));
+    };
+    places(deleting(4), DEHLBAZIN_DONE, {{DEHLBAZIN_PREPARE_ROWS, 1}});
+    places(deleting(5), DEHLBAZIN_LOCK_ACQUIRE, {{DEHLBAZIN_LOCK_ACQUIRE_NAME, 5}});
+    places(expecting(deleting(3), MUST_EXIST), DEHLBAZIN_DELETE_REFERENCE_MUST_EXIST,
+           {{DEHLBAZIN_DELETE_REFERENCE_MUST_EXIST_NAME, 3}});
+    places(expecting(updating(4, link(6)), MUST_NOT_EXIST), DEHLBAZIN_MUST_NOT_EXIST,
+           {{DEHLBAZIN_MUST_NOT_EXIST_NAME, 4},
+            {DEHLBAZIN_MUST_NOT_EXIST_ACTUAL_KIND, DEHLBAZIN_KIND_OBJECT},
+            {DEHLBAZIN_MUST_NOT_EXIST_ACTUAL_NUMBER, 44},
+            {DEHLBAZIN_MUST_NOT_EXIST_NEW_KIND, DEHLBAZIN_KIND_LINK},
+            {DEHLBAZIN_MUST_NOT_EXIST_NEW_NUMBER, 6}});
+    places(expecting(updating(3, object(1)), MUST_EXIST_AND_MATCH, link(7)), DEHLBAZIN_MUST_EXIST,
+           {{DEHLBAZIN_MUST_EXIST_NAME, 3},
+            {DEHLBAZIN_MUST_EXIST_EXPECTED_KIND, DEHLBAZIN_KIND_LINK},
+            {DEHLBAZIN_MUST_EXIST_EXPECTED_NUMBER, 7}});
+    places(expecting(deleting(4), MUST_EXIST_AND_MATCH, link(7)), DEHLBAZIN_REFERENCE_OUT_OF_DATE,
+           {{DEHLBAZIN_REFERENCE_OUT_OF_DATE_NAME, 4},
+            {DEHLBAZIN_REFERENCE_OUT_OF_DATE_EXPECTED_KIND, DEHLBAZIN_KIND_LINK},
+            {DEHLBAZIN_REFERENCE_OUT_OF_DATE_EXPECTED_NUMBER, 7},
+            {DEHLBAZIN_REFERENCE_OUT_OF_DATE_ACTUAL_KIND, DEHLBAZIN_KIND_OBJECT},
+            {DEHLBAZIN_REFERENCE_OUT_OF_DATE_ACTUAL_NUMBER, 44}});
+    places(expecting(deleting(6), MUST_NOT_EXIST), DEHLBAZIN_DELETE_MUST_NOT_EXIST, {{DEHLBAZIN_DELETE_MUST_NOT_EXIST_NAME, 6}});
+    places(updating(9, object(1)), DEHLBAZIN_NOT_REGISTERED, {{DEHLBAZIN_NOT_REGISTERED_NUMBER, 9}});
+    const Bytes answer = prepare_record(store, {deleting(6), deleting(6)}, DEHLBAZIN_MULTIPLE_EDITS);
+    check(dehlbazin_place(answer.data(), DEHLBAZIN_MULTIPLE_EDITS_NAME) == 6, "place 0 of 6");
+}
+
+// A list that C builds by the header's constants is the one that our own writer writes.
+static void test_list_from_c()
+{
+    Lent list(DEHLBAZIN_LIST_MOST_BYTES);
+    size_t size = list_from_c(list.data());
+    Edit first = through(expecting(updating(258, object(0x0102030405060708)), EXISTING_MUST_MATCH, link(0x1112131415161718)));
+    first.force = 1;
+    first.message = 0x2122;
+    const std::string stated = write_list({first, log_only(expecting(deleting(3), MUST_EXIST))});
+    check(std::string(list.data(), list.data() + size) == stated, "a list that C builds");
+}
+
 void test_header()
 {
     test_place();
     test_layout_version();
     test_places();
+    test_prepare_places();
+    test_list_from_c();
 
     Lent region(encode(Store{}));
     uint32_t number = 99;

@@ -13,11 +13,13 @@ static const uint8_t OLD = 0xEE;
 static std::vector<Call> calls()
 {
     using namespace call;
+    const std::string list = write_list({updating(0, object(9))}), repeated = write_list({deleting(0), deleting(0)});
     return {
         start(2), start(3), add_name("NEW"), add_name("bad"), add_name(""), name_bytes(1), name_bytes(65536),
         load_loose(1, 1, 9), load_loose(9, 1, 9), load_loose(1, 4, 0),
         load_packed(1, 1, 9), load_packed(9, 1, 9), load_packed(0, 1, 9),
         lock_name(0), lock_name(2), unlock_name(2), unlock_name(65536), lock_packed(), unlock_packed(), rollback(),
+        prepare(list, 1), prepare(list, 4), prepare("", 1), prepare(write_list({}), 2), prepare(repeated, 3),
         read_name(1), read_name(65536), read_line(0, 1), read_line(0, 3), read_row(0), read_row(~uint64_t(0)),
     };
 }
@@ -130,7 +132,7 @@ static void test_start()
             world.gives(call::start(setting), 2);
 }
 
-// The same calls with the region and the record at each of 16 alignments.
+// The same calls with the region, the list and the record at each of 16 alignments.
 static void test_alignment()
 {
     for (size_t shift = 0; shift < 16; shift++) {
@@ -144,8 +146,13 @@ static void test_alignment()
         check(dehlbazin_load_loose(region, REGION, 5, 1, 0x1122334455667788, record, ANSWER) == 0, what);
         check(dehlbazin_read_name(region, REGION, 5, record, ANSWER) == 0, what);
         check(dehlbazin_place(record, 0) == 1 && dehlbazin_place(record, 1) == 0x1122334455667788, what);
+        const std::string list = write_list({updating(5, object(0x99AABBCCDDEEFF00))}), lent = std::string(shift, 'x') + list;
+        const uint8_t *edits = reinterpret_cast<const uint8_t *>(lent.data()) + shift;
+        check(dehlbazin_prepare(region, REGION, edits, list.size(), 1, record, ANSWER) == 0, what);
+        check(dehlbazin_place(record, 0) == 1, what);
         Store after = busy();
         after.entries.push_back({"NEW", object(0x1122334455667788), 0, FREE});
+        answer_of(after, call::prepare(list, 1));
         check(encode(after) == Bytes(region, region + REGION), what);
         check(std::all_of(room.data(), region, [](uint8_t b) { return b == 0x77; }), what);
         check(std::all_of(region + REGION, record, [](uint8_t b) { return b == 0x77; }), what);

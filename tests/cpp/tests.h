@@ -11,5 +11,11 @@ void test_locks();
 void test_log();
 void test_prepared();
 void test_rules();
+void test_prepare_list();
+void test_prepare_splits();
+void test_prepare_turns();
+void test_prepare_kept();
+void test_prepare_room();
+void test_prepare_marked();
 void test_random();
 void test_flips(size_t every); // turns over one bit of each so many

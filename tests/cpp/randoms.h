@@ -1,0 +1,25 @@
+// What random checks are made of: numbers, names, stores and edit lists.
+#pragma once
+
+#include "dice.h"
+#include "store.h"
+
+// An object's number: a small one, a large one, or any.
+uint64_t object_number(Dice &dice);
+
+// Mostly a number below n, else one at or past it.
+uint64_t number_near(Dice &dice, uint64_t n);
+
+// A name, and bytes that are one or nearly one.
+std::string good_name(Dice &dice);
+std::string some_name(Dice &dice);
+
+// A good store, with a transaction or without.
+Store random_store(Dice &dice, size_t names, size_t lines, bool with_rows);
+
+// A good store on which many lists are prepared: few locks are foreign, many names are links, and the log is short, or full, or
+// nearly so. Nothing is prepared.
+Store ready_store(Dice &dice);
+
+// An edit list for a store. Most are well formed and name each name once; the others have a byte changed, or a few more or fewer.
+std::string random_list(Dice &dice, const Store &store);
