@@ -2,7 +2,7 @@
 use mathlib.Core.Path.{_≡_, refl, sym, ap, _∙_, subst}
 use mathlib.Core.Bool.{Bool, true, false, not, _&&_, cond}
 use mathlib.Core.List.{List, [], _∷_}
-use mathlib.Core.Option.{Option, none, some}
+use mathlib.Core.Option.{none, some}
 use Prim.Native.Nat.{ℕ, zero, suc, _<_, _≤_, _^_}
 use native.Mathlib.Omega.{arith}
 use lib.Dec.{eqb, ltb}
@@ -15,16 +15,13 @@ use Rattle.target.specs.declared.OptionName.the-variants.{NoName, Name}
 use Rattle.target.specs.declared.Target.the-variants.{Object}
 use Rattle.target.specs.declared.OptionTarget.the-variants.{Absent, Present}
 use Rattle.target.specs.Fields.{nameBelow}
-use Rattle.transaction.specs.declared.PackedRefs.{PackedRefs}
-use Rattle.transaction.specs.declared.PackedRefs.the-variants.{DeletionsOnly, DeletionsAndNonSymbolicUpdates, DeletionsAndNonSymbolicUpdatesRemoveLooseSourceReference}
-use Rattle.transaction.specs.Fields.{packedRefsNumber}
 use Rattle.model.specs.declared.Loose.{Loose}
 use Rattle.model.specs.declared.Loose.the-variants as loose
 use Rattle.model.specs.declared.Packed.{Packed}
 use Rattle.model.specs.declared.Packed.the-variants as packed
 use Rattle.model.specs.declared.Refusal.the-variants.{NotRegistered, WrongState, BadLoad}
 use Rattle.model.specs.Names.{packable}
-use Rattle.model.specs.Store.{Store, Prepared, count, entryAt, entryOf, isPrepared, isId, putLoose, putPacked, changeEntry}
+use Rattle.model.specs.Store.{Store, count, entryAt, entryOf, isPrepared, isId, putLoose, putPacked, changeEntry}
 use Rattle.model.specs.Outcome.Outcome.{refuse, pass}
 use Rattle.model.specs.Reply.{Reply, _>>_, known, idle}
 use Rattle.model.specs.Reply.Call.{loadLoose, loadPacked}
@@ -40,6 +37,7 @@ use Rattle.word.proofs.Tests.{both-true}
 use Rattle.model.proofs.Binds.{cond-some, some-is, none-some}
 use Rattle.slots.proofs.Forms.{loose-back}
 use Rattle.region.specs.Region.{view, good, modeByte, Became}
+use Rattle.region.proofs.Read.{is-prepared, not-prepared}
 use Rattle.steps.specs.declared.OptionPacked.{OptionPacked}
 use Rattle.steps.specs.declared.OptionPacked.the-variants as optionPacked
 use Rattle.steps.specs.Steps.{packedBy, packedOption}
@@ -72,25 +70,12 @@ module _ (s : Store) (kind x : ℕ) (o : OptionName) (h : kind ≡ 2) (e : o ≡
 
 -- ---- 15, then 3
 
-mode-positive : (m : PackedRefs) → packedRefsNumber m ≡ 0 → ⊥
-mode-positive DeletionsOnly e = omega arith
-mode-positive DeletionsAndNonSymbolicUpdates e = omega arith
-mode-positive DeletionsAndNonSymbolicUpdatesRemoveLooseSourceReference e = omega arith
-
-is-prepared : (p : Option Prepared) → (modeByte p ≡ 0 → ⊥) → isPrepared p ≡ true
-is-prepared none h = absurd (h refl)
-is-prepared (some p) h = refl
-
-not-prepared : (p : Option Prepared) → modeByte p ≡ 0 → isPrepared p ≡ false
-not-prepared none h = refl
-not-prepared (some p) h = absurd (mode-positive (p .mode) h)
-
 module _ (m : ℕ) (s : Store) (em : m ≡ modeByte (s .prepared)) where
   busy : (m ≡ 0 → ⊥) → idle s ≡ refuse WrongState
   busy h = rw (is-prepared (s .prepared) (λ (q : modeByte (s .prepared) ≡ 0). h (em ∙ q)))
 
   free : m ≡ 0 → idle s ≡ pass tt
-  free h = rw (not-prepared (s .prepared) (sym em ∙ h))
+  free h = rw (ap isPrepared (not-prepared (s .prepared) (sym em ∙ h)))
 
   -- past both tests
   goes : (n : ℕ) (o : OptionName) (a : NameNumber) → m ≡ 0 → o ≡ nameBelow (count s) n → o ≡ Name a → (reply : Reply) → (idle s >> (known n s >> reply)) ≡ reply

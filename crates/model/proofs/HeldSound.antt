@@ -47,10 +47,10 @@ abbrev ours : List Entry → ℕ → Bool
 ours es n = isLock Ours (getD es n noEntry .lock)
 
 -- name m's lock taken, or not
-abbrev taken : Bool → ℕ → List Entry → List Entry
+abbrev pub taken : Bool → ℕ → List Entry → List Entry
 taken k m es = cond k (changeAt (putLock Ours) m es) es
 
-taken-refs : (k : Bool) (m : ℕ) (es : List Entry) → map unlocked (taken k m es) ≡ map unlocked es
+pub taken-refs : (k : Bool) (m : ℕ) (es : List Entry) → map unlocked (taken k m es) ≡ map unlocked es
 taken-refs true m es = map-set-same unlocked es m (putLock Ours (getD es m noEntry)) noEntry refl
 taken-refs false m es = refl
 

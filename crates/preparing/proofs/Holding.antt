@@ -3,22 +3,23 @@ use mathlib.Core.Path.{_≡_, refl, sym, ap, _∙_}
 use mathlib.Core.Bool.{Bool, true, false, not, cond}
 use mathlib.Core.List.{List, [], _∷_, map}
 use mathlib.Core.Option.{Option, some}
-use Prim.Native.Nat.{ℕ, suc, _+_, _<_, _≤_}
+use Prim.Native.Nat.{ℕ, _+_, _<_, _≤_}
 use native.Mathlib.Numerals.{add-one}
 use native.Mathlib.Omega.{arith}
-use lib.ListN.{length, getD, drop, drop-of-length-le}
-use lib.Seq.{drop-cons, map-set-same}
+use lib.ListN.{length, drop, drop-of-length-le}
+use lib.Seq.{drop-cons}
 use borrow.Author.Tests.{not-true, not-false}
 use Rattle.transaction.specs.declared.PackedRefs.{PackedRefs}
 use Rattle.transaction.specs.declared.Edit.{Edit}
 use Rattle.model.specs.declared.Lock.{Lock}
 use Rattle.model.specs.declared.Lock.the-variants.{Ours}
-use Rattle.model.specs.Store.{Store, Entry, Prepared, noEntry, noRow, count, rowsIn, modeIn, putLock, changeAt, changeEntry, withEntries, withPackedLock, withPrepared}
+use Rattle.model.specs.Store.{Store, Entry, Prepared, noRow, count, rowsIn, modeIn, putLock, changeAt, changeEntry, withEntries, withPackedLock, withPrepared}
 use Rattle.model.specs.Rows.{nameIn, rowAt, counts, opens, keepsLock}
 use Rattle.model.specs.Prepare.{holding, held}
 use Rattle.model.specs.Numbers.{answer}
 use Rattle.answers.specs.declared.Verdict.{Verdict}
 use Rattle.answers.specs.Answers.{answerBy}
+use Rattle.model.proofs.HeldSound.{taken, taken-refs}
 use Rattle.model.proofs.SameRefs.{unlocked, SameRefs, same-count, same-keepsLock}
 use Rattle.region.specs.Region.{view, Laid, Became}
 use Rattle.preparing.specs.Rows.{Named, heldBy, namesHeld, tableHeld}
@@ -46,14 +47,6 @@ pub row-name : (x row : Edit) (n : ℕ) → x ≡ row → nameIn row .0 < n → 
 row-name x row n e h = rw e h
 
 -- ---- the rows, one by one
-
--- name m's lock taken, or not
-abbrev taken : Bool → ℕ → List Entry → List Entry
-taken k m es = cond k (changeAt (putLock Ours) m es) es
-
-taken-refs : (k : Bool) (m : ℕ) (es : List Entry) → map unlocked (taken k m es) ≡ map unlocked es
-taken-refs true m es = map-set-same unlocked es m (putLock Ours (getD es m noEntry)) noEntry refl
-taken-refs false m es = refl
 
 -- of the rows in s those before place i hold in t what they keep, and t has other locks alone
 pub record Held (s : Store) (i : ℕ) (t : Store) : Type 0 where

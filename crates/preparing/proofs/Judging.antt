@@ -30,7 +30,7 @@ use Rattle.model.specs.Prepare.{turnsFrom}
 use Rattle.model.proofs.SameRefs.{SameRefs, same-opens, same-dueLines}
 use Rattle.region.specs.Region.{view, Laid, Became}
 use Rattle.writers.specs.Taken.{outcomeBy, Taken}
-use Rattle.splits.proofs.Table.{own-rows, other-rows}
+use Rattle.writers.proofs.OtherRows.{own-rows, other-rows}
 use Rattle.splits.proofs.Rounds.{splits-of, one-name-of}
 use Rattle.turns.proofs.Same.{same-turns}
 use Rattle.turns.proofs.Upward.{splits-upward}

@@ -3,15 +3,13 @@
 use mathlib.Core.Path.{_≡_, refl, sym, ap, _∙_, subst}
 use mathlib.Core.Bool.{Bool, true, false, not, _&&_, cond, false≢true}
 use mathlib.Core.List.{List, [], _∷_, map}
-use mathlib.Core.Option.{Option, none, some, Option·getD}
+use mathlib.Core.Option.{Option, none, some}
 use Prim.Native.Nat.{ℕ, _+_}
-use native.Mathlib.Omega.{arith}
 use lib.ListN.{length, length-set}
 use lib.Dec.{ltb}
 use borrow.Author.Tests.{not-true, not-false}
 use Rattle.word.specs.Codec.{isSome}
 use Rattle.transaction.specs.declared.PackedRefs.{PackedRefs}
-use Rattle.transaction.specs.declared.PackedRefs.the-variants.{DeletionsOnly, DeletionsAndNonSymbolicUpdates, DeletionsAndNonSymbolicUpdatesRemoveLooseSourceReference}
 use Rattle.transaction.specs.declared.OptionPackedRefs.{OptionPackedRefs}
 use Rattle.transaction.specs.declared.OptionPackedRefs.the-variants.{NoMode, Mode}
 use Rattle.transaction.specs.declared.RefEdit.{RefEdit}
@@ -23,7 +21,7 @@ use Rattle.model.specs.declared.Judged.{Judged}
 use Rattle.model.specs.declared.Judged.the-variants.{Passed, Refused}
 use Rattle.model.specs.declared.Lock.the-variants.{Foreign, Ours}
 use Rattle.model.specs.declared.Refusal.{Refusal}
-use Rattle.model.specs.declared.Refusal.the-variants.{Malformed, NotRegistered, PackedTransactionAcquire, LogFull, WrongState}
+use Rattle.model.specs.declared.Refusal.the-variants.{Malformed, PackedTransactionAcquire, LogFull, WrongState}
 use Rattle.model.specs.Basic.{any, collect}
 use Rattle.model.specs.Store.{Store, Entry, Prepared, count, rowsIn, modeIn, isPrepared, isLock, putLock, changeAt, withPrepared, withRows}
 use Rattle.model.specs.Rows.{nameIn, counts, opens, keepsLock}
@@ -35,7 +33,6 @@ use Rattle.model.specs.Due.{dueLines}
 use Rattle.model.specs.Prepare.{registered, opening, turnsFrom, rowsFor, holding, held}
 use Rattle.model.specs.Fine.{fineRow, Fine}
 use Rattle.model.specs.Reached.{Sound}
-use Rattle.model.specs.Reply.{Reply}
 use Rattle.model.specs.Reply as reply
 use Rattle.model.specs.Reply.Call.{prepare}
 use Rattle.model.specs.Reply.Reply.{done, refused}
@@ -45,11 +42,13 @@ use Rattle.model.specs.Numbers.{answer, answerOf, refusalAnswer}
 use Rattle.model.proofs.FineEdit.{row-name}
 use Rattle.model.proofs.PrepareSound.{prepare-sound}
 use Rattle.region.specs.Region.{modeByte, image, view, good, Laid, Became}
+use Rattle.region.proofs.Read.{is-prepared, not-prepared}
 use Rattle.region.proofs.Decode.{good-parts, laid-image, became-image}
 use Rattle.writers.specs.Taken.{Taken, outcomeBy}
 use Rattle.edits.specs.declared.OptionNumber.{OptionNumber}
 use Rattle.edits.specs.declared.OptionNumber.the-variants.{NoNumber, Number}
 use Rattle.edits.specs.Edits.{editsIn, numberOption, Registered}
+use Rattle.edits.proofs.Numbers.{is-in}
 use Rattle.answers.specs.declared.Verdict.{Verdict}
 use Rattle.answers.specs.Answers.{answerBy}
 use Rattle.calls.specs.Call.{replyTo, Replied}
@@ -146,31 +145,13 @@ module _ (list : List ℕ) (k : ℕ) (s : Store) where
 -- ---- what is read of the arguments
 
 -- a list that is well formed
-some-in : (o : Option (List RefEdit)) → isSome o ≡ true → o ≡ some (Option·getD o [])
-some-in none e = absurd (false≢true e)
-some-in (some x) e = refl
-
 none-in : (o : Option (List RefEdit)) → isSome o ≡ false → o ≡ none
 none-in none e = refl
 none-in (some x) e = absurd (false≢true (sym e))
 
 formed-in : (list : List ℕ) → isSome (editsOf list) ≡ true → editsOf list ≡ some (editsIn list)
 unfolding editsIn
-formed-in list e = some-in (editsOf list) e
-
--- the mode's byte is 0 exactly where nothing is prepared
-mode-positive : (m : PackedRefs) → packedRefsNumber m ≡ 0 → ⊥
-mode-positive DeletionsOnly e = omega arith
-mode-positive DeletionsAndNonSymbolicUpdates e = omega arith
-mode-positive DeletionsAndNonSymbolicUpdatesRemoveLooseSourceReference e = omega arith
-
-is-prepared : (p : Option Prepared) → (modeByte p ≡ 0 → ⊥) → isPrepared p ≡ true
-is-prepared none h = absurd (h refl)
-is-prepared (some p) h = refl
-
-not-prepared : (p : Option Prepared) → modeByte p ≡ 0 → p ≡ none
-not-prepared none h = refl
-not-prepared (some p) h = absurd (mode-positive (p .mode) h)
+formed-in list e = is-in (editsOf list) [] e
 
 -- ---- the names of rows that are held
 

@@ -1,7 +1,8 @@
 -- What accessors that read rest on. Assumes nothing.
-use mathlib.Core.Path.{_≡_, sym, ap, _∙_}
+use mathlib.Core.Path.{_≡_, refl, sym, ap, _∙_}
 use mathlib.Core.Bool.{true}
 use mathlib.Core.List.{List}
+use mathlib.Core.Option.{Option, none, some}
 use Prim.Native.Nat.{ℕ, _+_, _*_, _≤_, _<_}
 use native.Mathlib.Nat.{le-trans, le-of-eq, add-zero}
 use native.Mathlib.Omega.{arith}
@@ -15,7 +16,10 @@ use Rattle.word.specs.Text.{decText, testText}
 use Rattle.word.proofs.Tests.{both-true}
 use Rattle.word.proofs.Cut.{length-cut, cut-cut}
 use Rattle.word.proofs.Slots.{okTable-held, slot-end}
-use Rattle.model.specs.Store.{Entry, noLine, count, entryAt, rowsIn}
+use Rattle.model.specs.Store.{Entry, Prepared, noLine, count, entryAt, rowsIn, isPrepared}
+use Rattle.transaction.specs.declared.PackedRefs.{PackedRefs}
+use Rattle.transaction.specs.declared.PackedRefs.the-variants.{DeletionsOnly, DeletionsAndNonSymbolicUpdates, DeletionsAndNonSymbolicUpdatesRemoveLooseSourceReference}
+use Rattle.transaction.specs.Fields.{packedRefsNumber}
 use Rattle.transaction.specs.declared.Edit.{Edit}
 use Rattle.model.specs.Rows as model
 use Rattle.region.specs.Layout.{nameBase, nameWidth}
@@ -103,3 +107,18 @@ module _ (r : List ℕ) (l : Laid r) (n : ℕ) (h : n < count (view r)) where
 
 pub name-of-row : (row : Edit) (rows : List Edit) (i : ℕ) → row ≡ model.rowAt rows i → row .update .name ≡ model.nameIn (model.rowAt rows i)
 name-of-row row rows i e = ap model.nameIn e
+
+-- ---- the mode's byte is 0 exactly where nothing is prepared
+
+mode-positive : (m : PackedRefs) → packedRefsNumber m ≡ 0 → ⊥
+mode-positive DeletionsOnly e = omega arith
+mode-positive DeletionsAndNonSymbolicUpdates e = omega arith
+mode-positive DeletionsAndNonSymbolicUpdatesRemoveLooseSourceReference e = omega arith
+
+pub is-prepared : (p : Option Prepared) → (modeByte p ≡ 0 → ⊥) → isPrepared p ≡ true
+is-prepared none h = absurd (h refl)
+is-prepared (some p) h = refl
+
+pub not-prepared : (p : Option Prepared) → modeByte p ≡ 0 → p ≡ none
+not-prepared none h = refl
+not-prepared (some p) h = absurd (mode-positive (p .mode) h)

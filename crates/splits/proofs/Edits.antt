@@ -31,7 +31,8 @@ use Rattle.region.specs.Region.{view, Laid, Became}
 use Rattle.edits.proofs.Numbers.{is-in}
 use Rattle.edits.specs.Edits.{editsIn, noEdit, Registered}
 use Rattle.splits.specs.Round.{hide, hiddenRows, stepped, steps}
-use Rattle.splits.proofs.Table.{own-rows, other-rows, rows-seen, still-prepared, Far, far-start, far-more, far-end}
+use Rattle.writers.proofs.OtherRows.{own-rows, other-rows, rows-seen, still-prepared}
+use Rattle.splits.proofs.Table.{Far, far-start, far-more, far-end}
 use Rattle.splits.proofs.Model.{map-append, asked}
 
 -- ---- what an edit says fits

@@ -23,7 +23,7 @@ use Rattle.edits.specs.Edits.{editsIn}
 use Rattle.edits.proofs.Numbers.{is-in}
 use Rattle.splits.specs.Round.{hiddenRows, leadsOn, steps}
 use Rattle.splits.proofs.Model.{asked}
-use Rattle.splits.proofs.Table.{own-rows, other-rows, rows-seen, still-prepared}
+use Rattle.writers.proofs.OtherRows.{own-rows, other-rows, rows-seen, still-prepared}
 use Rattle.splits.proofs.Rounds.{Hidden, steps-of, onward, onward-of, onward-round, round-length, onward-passes, onward-cycles, first-length, onward-first}
 
 -- no row of the table has a mark

@@ -33,6 +33,7 @@ use Rattle.slots.specs.Values.{FitsLoose, FitsPacked}
 use Rattle.slots.specs.Row.{FitsRow, FitsOption}
 use Rattle.region.specs.Region.{view, Laid, Became}
 use Rattle.region.proofs.Decode.{laid-image}
+use Rattle.writers.proofs.OtherRows.{as-as, own-rows}
 use Rattle.turns.proofs.Climb.{leaf-upward, hand-none, hand-up, kept-upward, turned-none, turned-handed}
 
 -- ---- a store with other rows
@@ -41,18 +42,6 @@ use Rattle.turns.proofs.Climb.{leaf-upward, hand-none, hand-up, kept-up
 rows-as : (l : List Edit) (q : Option Prepared) (i : ℕ) → i < length (rowsIn q) → rowsIn (rowsAs l q) ≡ l
 rows-as l none i h = absurd (omega arith)
 rows-as l (some p) i h = refl
-
-pub as-as : (l m : List Edit) (q : Option Prepared) → rowsAs m (rowsAs l q) ≡ rowsAs m q
-as-as l m none = refl
-as-as l m (some p) = refl
-
-as-own : (q : Option Prepared) → rowsAs (rowsIn q) q ≡ q
-as-own none = refl
-as-own (some p) = refl
-
--- a store with its own rows
-pub own-rows : (s : Store) → s ≡ withRows s (rowsIn (s .prepared))
-own-rows s = sym (ap (withPrepared s) (as-own (s .prepared)))
 
 module _ (r r′ : List ℕ) (i : ℕ) (l : List Edit) (h : i < length (rowsIn (view r .prepared))) (b : Became r′ (withRows (view r) l)) where
   pub rows-seen : rowsIn (view r′ .prepared) ≡ l

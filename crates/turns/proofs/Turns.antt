@@ -31,7 +31,8 @@ use Rattle.region.specs.Region.{view, Laid, Became}
 use Rattle.writers.specs.Taken.{Taken, outcomeBy}
 use Rattle.turns.specs.Judged.{judgedOption}
 use Rattle.turns.proofs.Climb.{upward-alike}
-use Rattle.turns.proofs.Turned.{as-as, own-rows, rows-seen}
+use Rattle.writers.proofs.OtherRows.{as-as, own-rows}
+use Rattle.turns.proofs.Turned.{rows-seen}
 use Rattle.turns.proofs.Same.{same-turn, turn-alike}
 
 -- ---- who holds the lock

@@ -6,3 +6,4 @@ pub mod WriteRows
 pub mod RowLaws
 pub mod WriteLines
 pub mod LineLaws
+pub mod OtherRows

@@ -1,5 +1,5 @@
 use borrow.Author.Needs.{needs}
-use Rattle.splits.proofs.Table.{still-prepared, rows-seen}
+use Rattle.writers.proofs.OtherRows.{still-prepared, rows-seen}
 use Rattle.preparing.proofs.Judging.{split-taken}
 use Rattle.preparing.proofs.split_rows.Statement.{statement}
 use Rattle.preparing.proofs.split_rows.Tie as tie
