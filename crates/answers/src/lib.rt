@@ -52,6 +52,10 @@ impl Answer {
 
     pub const WRONG_STATE: u32 = 15;
 
+    pub const NO_COMMITTER: u32 = 16;
+
+    pub const USED_UP: u32 = 17;
+
     pub const BAD_NAME: u32 = 18;
 
     pub const NAMES_FULL: u32 = 19;

@@ -7,6 +7,7 @@ use borrow.Author.Tests.{not-true, not-false}
 use Rattle.model.specs.declared.Refusal.{Refusal}
 use Rattle.model.specs.declared.Refusal.the-variants.{BadRegion}
 use Rattle.model.specs.Store.{Store}
+use Rattle.model.specs.Fine.{Fine}
 use Rattle.model.specs.Reply.{Call, Given}
 use Rattle.model.specs.Reply.Reply.{done, refused}
 use Rattle.model.specs.Calls.{step}
@@ -20,6 +21,10 @@ use Rattle.calls.specs.Call.{sized, isStart, found, stepOn, replyTo, Rep
 -- a good region is laid out so
 pub good-laid : (r : List ℕ) (ok : Bool) → ok ≡ good r → not ok ≡ false → Laid r
 good-laid r ok is y = laid r (good-parts r (sym is ∙ not-false ok y) .0)
+
+-- and obeys the rules
+pub good-fine : (r : List ℕ) (ok : Bool) → ok ≡ good r → not ok ≡ false → Fine (view r)
+good-fine r ok is y = good-parts r (sym is ∙ not-false ok y) .1
 
 -- ---- the ways to answer
 

@@ -1,2 +1,3 @@
 pub mod Call
 pub mod Exports
+pub mod Demand3

@@ -2,7 +2,7 @@
 // fixes the number, every byte of the record and every byte of what is lent, the region first.
 ghost use mathlib.Core.List.{[], _∷_};
 ghost use Rattle.model.specs.Reply.Call.{start, addName, nameBytes, loadLoose, loadPacked, lockName, unlockName};
-ghost use Rattle.model.specs.Reply.Call.{lockPacked, unlockPacked, prepare, rollback, readName, readLine, readRow};
+ghost use Rattle.model.specs.Reply.Call.{lockPacked, unlockPacked, prepare, commit, rollback, readName, readLine, readRow};
 ghost use Rattle.calls.specs.Call.{call, Did};
 use answers::Answer;
 
@@ -140,6 +140,23 @@ pub extern "C" fn dehlbazin_prepare(
         return Answer::BAD_REGION;
     }
     let verdict = preparing::prepare(region, list, mode);
+    answers::finish(answer, verdict)
+}
+
+// Makes the writes of the prepared transaction in their order, as many as the allowance lets it: how many it made.
+#[no_mangle]
+pub extern "C" fn dehlbazin_commit(
+    region: &mut [u8],
+    committer: u64,
+    allowance: u64,
+    answer: &mut [u8],
+) -> u32
+    ensures { λ r. ⌜ Did (call (commit committer allowance) (now (region .entry)) (now (answer .entry))) r (now (answer .exit)) (now (region .exit) ∷ []) ⌝ }
+{
+    if answer.len() != Answer::SIZE {
+        return Answer::BAD_REGION;
+    }
+    let verdict = committing::commit(region, committer, allowance);
     answers::finish(answer, verdict)
 }
 

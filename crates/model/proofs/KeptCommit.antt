@@ -31,7 +31,7 @@ use Rattle.model.specs.Rows.{nameIn, changeIn, rowAt, counts, opens, isD
 use Rattle.model.specs.Due.{hasLines, Stamp, Move, moveOf, orLeaf, isLogged, dueLine, dueLines, unsigned, lineBy}
 use Rattle.model.specs.Writes.{PackedEdit, Write, applyPacked, apply, w1, w2, w3, w4, packedEdit, packedEdits, packedSet, orderedWrites, writes, looseWrite, writesLoose}
 use Rattle.model.specs.Writes.Write.{appendLine, writeLoose, removeLog, writePacked, removeLoose}
-use Rattle.model.specs.Commit.{Stop, Run, isLine, run, committing}
+use Rattle.model.specs.Commit.{Stop, Run, isLine, linesIn, run, committing}
 use Rattle.model.specs.Fine.{Fine, fineTarget, fineOption, finePacked, fineLine}
 use Rattle.model.specs.Reply.Call.{commit}
 use Rattle.model.specs.Calls.{ended, committed, step}
@@ -120,12 +120,8 @@ apply-name (removeLog m) s n = refl
 apply-name (writePacked ps) s n = applied-name ps (s .entries) n
 apply-name (removeLoose m) s n = changed-keeps (λ x. x .name) (putLoose loose.None) (m .0) n (s .entries) refl
 
--- how many lines the writes append
-abbrev linesIn : List Write → ℕ
-linesIn ws = length (select isLine ws)
-
 -- what is left of the writes after one still finds room
-apply-room : (w : Write) (ws : List Write) (s : Store) → length (s .lines) + linesIn (w ∷ ws) ≤ 1024
+pub apply-room : (w : Write) (ws : List Write) (s : Store) → length (s .lines) + linesIn (w ∷ ws) ≤ 1024
     → length (apply w s .lines) + linesIn ws ≤ 1024
 unfolding apply
 apply-room (appendLine l) ws s h = rw length-append (omega arith)
@@ -134,7 +130,7 @@ apply-room (removeLog n) ws s h = omega (arith, select-length (λ (l : Line). no
 apply-room (writePacked ps) ws s h = h
 apply-room (removeLoose n) ws s h = h
 
-line-room : (w : Write) (ws : List Write) (s : Store) → length (s .lines) + linesIn (w ∷ ws) ≤ 1024 → isLine w ≡ true
+pub line-room : (w : Write) (ws : List Write) (s : Store) → length (s .lines) + linesIn (w ∷ ws) ≤ 1024 → isLine w ≡ true
     → length (s .lines) < 1024
 line-room w ws s h e = let more : length (s .lines) + suc (linesIn ws) ≤ 1024 = rw e at h in omega arith
 
@@ -173,7 +169,7 @@ run-base stamp (suc k) (w ∷ ws) made s l =
 
 -- ---- how many lines commit appends: as many as are due, whoever commits
 
-lines-append : (xs ys : List Write) → linesIn (xs ++ ys) ≡ linesIn xs + linesIn ys
+pub lines-append : (xs ys : List Write) → linesIn (xs ++ ys) ≡ linesIn xs + linesIn ys
 lines-append [] ys = omega arith
 lines-append (x ∷ xs) ys = go (isLine x) (lines-append xs ys)
   where
@@ -345,7 +341,7 @@ module _ (stamp : Stamp) (small : stamp .committer ≤ 65535) (s : Store) (mode 
         (each-collect Due (w1 stamp s mode) noRow rows (λ i k. w1-due (rowAt rows i) (f i k)))
         (each-weaken Due Quiet (λ w h e. h .1) rest rest-quiet)
 
-    writes-lines : linesIn (orderedWrites stamp s mode rows) ≡ length (dueLines s rows)
+    pub writes-lines : linesIn (orderedWrites stamp s mode rows) ≡ length (dueLines s rows)
     unfolding orderedWrites
     writes-lines =
         rw (lines-append (collect (w1 stamp s mode) rows) rest, quiet-lines rest rest-quiet)

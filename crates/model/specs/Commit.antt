@@ -3,9 +3,11 @@ use mathlib.Core.Bool.{Bool, true, false, _&&_, cond}
 use mathlib.Core.List.{List, [], _∷_, map}
 use mathlib.Core.Option.{Option, none, some}
 use Prim.Native.Nat.{ℕ, zero, suc, _+_}
+use lib.ListN.{length}
 use lib.Dec.{eqb}
 use Rattle.model.specs.declared.Lock.{Lock}
 use Rattle.model.specs.declared.Lock.the-variants.{Free, Foreign, Ours}
+use Rattle.model.specs.Basic.{select}
 use Rattle.model.specs.Store.{Store, Entry, putLock}
 use Rattle.model.specs.Due.{Stamp}
 use Rattle.model.specs.Writes.{Write, writes, apply}
@@ -46,6 +48,10 @@ isLine (writeLoose n t) = false
 isLine (removeLog n) = false
 isLine (writePacked ps) = false
 isLine (removeLoose n) = false
+
+-- how many lines these writes append
+abbrev pub linesIn : List Write → ℕ
+linesIn ws = length (select isLine ws)
 
 -- before each write: allowance used up, 17; else a log line without committer, 16
 unfoldable pub run : Stamp → ℕ → List Write → ℕ → Store → Run

@@ -56,6 +56,9 @@ pub enum OptionLine {
 impl Line {
     // At most 1,024 lines in all.
     pub const LIMIT: usize = 1024;
+
+    // Committers are 1 to 65,535; 0 says that there is none.
+    pub const COMMITTERS: u64 = 65535;
 }
 
 // Why a call is refused, with what the caller is told. Named after the Rust's errors where it has one.

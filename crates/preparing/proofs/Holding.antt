@@ -22,7 +22,8 @@ use Rattle.answers.specs.Answers.{answerBy}
 use Rattle.model.proofs.HeldSound.{taken, taken-refs}
 use Rattle.model.proofs.SameRefs.{unlocked, SameRefs, same-count, same-keepsLock}
 use Rattle.region.specs.Region.{view, Laid, Became}
-use Rattle.preparing.specs.Rows.{Named, heldBy, namesHeld, tableHeld}
+use Rattle.rows.specs.Rows.{Named}
+use Rattle.preparing.specs.Rows.{heldBy, namesHeld, tableHeld}
 
 -- ---- a row
 
@@ -74,7 +75,7 @@ module _ (s t : Store) (i n : ℕ) (h : Held s i t) (e : n ≡ length (rowsIn (s
   pub held-name : i < n → Named s → nameIn (rowAt (rowsIn (t .prepared)) i) .0 < count t
   held-name l named =
       let b : i < length (rowsIn (s .prepared)) = rw e at l in
-      rw (same-rows, same-count t s same-refs) (named .names i b)
+      rw (same-rows, same-count t s same-refs) (named .named i b)
 
   held-more : (mode : PackedRefs) (t′ : Store) → i < n → mode ≡ modeIn (s .prepared) → t′ ≡ heldBy mode (rowAt (rowsIn (t .prepared)) i) t → Held s (i + 1) t′
   unfolding heldBy
@@ -137,7 +138,7 @@ module _ (r : List ℕ) (k : Bool) (ek : k ≡ opens (view r) (modeIn (view r .p
 -- names and rows are as they were
 pub table-named : (r : List ℕ) (s : Store) → Named s → Became r (tableHeld s) → Named (view r)
 unfolding tableHeld
-table-named r s h g = rw (g .seen) (record { names = h .names })
+table-named r s h g = rw (g .seen) (record { named = h .named })
 
 -- ---- both
 

@@ -43,7 +43,8 @@ use Rattle.model.proofs.FineEdit.{row-name}
 use Rattle.model.proofs.PrepareSound.{prepare-sound}
 use Rattle.region.specs.Region.{modeByte, image, view, good, Laid, Became}
 use Rattle.region.proofs.Read.{is-prepared, not-prepared}
-use Rattle.region.proofs.Decode.{good-parts, laid-image, became-image}
+use Rattle.region.proofs.Decode.{laid-image, became-image}
+use Rattle.rows.specs.Rows.{Named}
 use Rattle.writers.specs.Taken.{Taken, outcomeBy}
 use Rattle.edits.specs.declared.OptionNumber.{OptionNumber}
 use Rattle.edits.specs.declared.OptionNumber.the-variants.{NoNumber, Number}
@@ -53,7 +54,7 @@ use Rattle.answers.specs.declared.Verdict.{Verdict}
 use Rattle.answers.specs.Answers.{answerBy}
 use Rattle.calls.specs.Call.{replyTo, Replied}
 use Rattle.calls.proofs.Replies.{replies, says-no}
-use Rattle.preparing.specs.Rows.{namesJudged, turnsJudged, splitJudged, judgedRows, listJudged, Begun, namesHeld, tableHeld, Named, preparedWith}
+use Rattle.preparing.specs.Rows.{namesJudged, turnsJudged, splitJudged, judgedRows, listJudged, Begun, namesHeld, tableHeld, preparedWith}
 use Rattle.preparing.proofs.Judging.{judged-of}
 use Rattle.preparing.proofs.Holding.{held-is}
 
@@ -167,7 +168,7 @@ holding-length s mode (r ∷ rs) es =
 held-named : (s : Store) (p : Prepared) → Fine (held p s) → Named (withPrepared s (some p))
 unfolding held
 held-named s p f = record {
-  names = λ i h. row-name (count s) (p .rows) i
+  named = λ i h. row-name (count s) (p .rows) i
       (subst (λ (n : ℕ). fineRow n (p .rows) i ≡ true) (holding-length s (p .mode) (p .rows) (s .entries)) (f .rows i h));
 }
 
@@ -288,9 +289,6 @@ module _ (list r : List ℕ) (k : ℕ) (idle : view r .prepared ≡ none) (b : B
         subst (Replied v r r′) (sym (steps-to list k (view r) (ap isPrepared idle) (editsIn list) edits-are mode (ap packedRefsOption (sym eo ∙ q)))) w
 
 -- ---- 1 and 15
-
-pub good-fine : (r : List ℕ) (ok : Bool) → ok ≡ good r → not ok ≡ false → Fine (view r)
-good-fine r ok is y = good-parts r (sym is ∙ not-false ok y) .1
 
 pub idle-none : (r : List ℕ) (m : ℕ) → m ≡ modeByte (view r .prepared) → m ≡ 0 → view r .prepared ≡ none
 idle-none r m em z = not-prepared (view r .prepared) (sym em ∙ z)

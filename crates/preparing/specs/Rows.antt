@@ -3,7 +3,7 @@ use mathlib.Core.Path.{_≡_}
 use mathlib.Core.Bool.{_&&_, cond}
 use mathlib.Core.List.{List, map}
 use mathlib.Core.Option.{some}
-use Prim.Native.Nat.{ℕ, _+_, _<_}
+use Prim.Native.Nat.{ℕ, _+_}
 use lib.ListN.{length}
 use lib.Dec.{ltb}
 use Rattle.transaction.specs.declared.PackedRefs.{PackedRefs}
@@ -14,8 +14,8 @@ use Rattle.model.specs.declared.Judged.{Judged}
 use Rattle.model.specs.declared.Lock.the-variants.{Foreign, Ours}
 use Rattle.model.specs.declared.Refusal.the-variants.{PackedTransactionAcquire, LogFull}
 use Rattle.model.specs.Basic.{any}
-use Rattle.model.specs.Store.{Store, count, rowsIn, modeIn, isLock, putLock, changeEntry, withEntries, withPackedLock, withPrepared}
-use Rattle.model.specs.Rows.{nameIn, rowAt, counts, opens, keepsLock}
+use Rattle.model.specs.Store.{Store, rowsIn, modeIn, isLock, putLock, changeEntry, withEntries, withPackedLock, withPrepared}
+use Rattle.model.specs.Rows.{nameIn, counts, opens, keepsLock}
 use Rattle.model.specs.Due.{dueLines}
 use Rattle.model.specs.Outcome.{Outcome, _>>=_, _>>_, refuseIf}
 use Rattle.model.specs.Outcome.Outcome.{refuse, pass}
@@ -54,10 +54,6 @@ pub record Begun (r₀ r : List ℕ) (j : Judged) (mode : PackedRefs) (o : Outco
   pub laid : Laid r
   pub seen : view r ≡ withPrepared (view r₀) (some (record { mode = mode; rows = rowsIn (view r .prepared) }))
   pub whole : outcomeBy j (rowsIn (view r .prepared)) ≡ o
-
--- every row's name is registered
-pub record Named (s : Store) : Type 0 where
-  pub names : (i : ℕ) → i < length (rowsIn (s .prepared)) → nameIn (rowAt (rowsIn (s .prepared)) i) .0 < count s
 
 -- R4: the lock that a row keeps is ours
 unfoldable pub heldBy : PackedRefs → Edit → Store → Store

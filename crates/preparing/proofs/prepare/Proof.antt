@@ -1,6 +1,6 @@
 use borrow.Author.Needs.{needs}
-use Rattle.calls.proofs.Replies.{good-laid, bad-region}
-use Rattle.preparing.proofs.Preparing.{good-fine, idle-none, prepare-busy, prepare-done}
+use Rattle.calls.proofs.Replies.{good-laid, good-fine, bad-region}
+use Rattle.preparing.proofs.Preparing.{idle-none, prepare-busy, prepare-done}
 use Rattle.preparing.proofs.prepare.Statement.{statement}
 use Rattle.preparing.proofs.prepare.Tie as tie
 

@@ -1,0 +1,6 @@
+pub mod Says
+pub mod Turns
+pub mod Stable
+pub mod Keeps
+pub mod Steps
+pub mod Whole

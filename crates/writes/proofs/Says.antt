@@ -1,0 +1,154 @@
+-- What each way out of a decision says. Assumes nothing.
+use mathlib.Core.Path.{_≡_, refl, sym, ap, _∙_}
+use mathlib.Core.Bool.{Bool, true, false, _||_, not, cond}
+use mathlib.Core.List.{List, [], map, append-nil}
+use Prim.Native.Nat.{ℕ, _≤_, _<_}
+use native.Mathlib.Omega.{arith}
+use lib.Dec.{leb}
+use borrow.Author.Tests.{not-true, not-false, le-leb, lt-leb}
+use Rattle.target.specs.declared.NameNumber.{NameNumber}
+use Rattle.target.specs.declared.ObjectNumber.{ObjectNumber}
+use Rattle.target.specs.declared.OptionTarget.{OptionTarget}
+use Rattle.target.specs.declared.OptionTarget.the-variants.{Absent, Present}
+use Rattle.target.specs.declared.Target.{Target}
+use Rattle.target.specs.declared.Target.the-variants.{Object, Symbolic}
+use Rattle.transaction.specs.declared.Change.{Change}
+use Rattle.transaction.specs.declared.Change.the-variants.{Update, Delete}
+use Rattle.transaction.specs.declared.PackedRefs.{PackedRefs}
+use Rattle.transaction.specs.declared.Edit.{Edit}
+use Rattle.transaction.specs.Change.{newValue, isLogOnly, isDelete}
+use Rattle.transaction.specs.Fields.{packedRefsNumber}
+use Rattle.model.specs.declared.Line.{Line}
+use Rattle.model.specs.declared.OptionLine.{OptionLine}
+use Rattle.model.specs.declared.OptionLine.the-variants as optionLine
+use Rattle.model.specs.declared.Loose.{Loose}
+use Rattle.model.specs.declared.Packed.{Packed}
+use Rattle.model.specs.declared.Packed.the-variants as packed
+use Rattle.model.specs.Store.{Store, entryAt, isNone, isPacked}
+use Rattle.model.specs.Rows.{nameIn, changeIn, counts, packsUpdates, isDirect, keepsLock}
+use Rattle.model.specs.Due.{hasLines}
+use Rattle.model.specs.Writes.{packedSet, packedEdit, w2, w4}
+use Rattle.model.specs.Writes.Write.{appendLine}
+use Rattle.rows.specs.Due.{lineList}
+use Rattle.writes.specs.declared.OptionWrite.the-variants.{NoWrite, AppendLine, WriteLoose, RemoveLog, RemoveLoose}
+use Rattle.writes.specs.declared.OptionPackedEdit.{OptionPackedEdit}
+use Rattle.writes.specs.declared.OptionPackedEdit.the-variants.{NoPackedEdit, Sets}
+use Rattle.writes.specs.Next.{packedList, writeList, looseOf}
+
+-- ---- W1
+
+pub line-none : (s : Store) (o : OptionLine) (ls : List Line) → lineList o ≡ ls → o ≡ optionLine.NoLine → writeList s NoWrite ≡ map appendLine ls
+unfolding writeList
+line-none s o ls e f = rw (← e, f)
+
+pub line-due : (s : Store) (o : OptionLine) (ls : List Line) (l : Line) → lineList o ≡ ls → o ≡ optionLine.Line l → writeList s (AppendLine l) ≡ map appendLine ls
+unfolding writeList
+line-due s o ls l e f = rw (← e, f)
+
+module _ (s : Store) (mode : PackedRefs) (r : Edit) (keeps : Bool) (ek : keeps ≡ keepsLock s mode r) where
+  pub loose-free : not keeps ≡ true → writeList s NoWrite ≡ looseOf s mode r
+  unfolding writeList looseOf
+  loose-free t = rw (sym ek ∙ not-true keeps t)
+
+  module _ (kept : not keeps ≡ false) (only : Bool) (eo : only ≡ isLogOnly (changeIn r)) where
+    pub loose-only : only ≡ true → writeList s NoWrite ≡ looseOf s mode r
+    unfolding writeList looseOf
+    loose-only t = rw (sym ek ∙ not-false keeps kept, sym eo ∙ t)
+
+    module _ (so : only ≡ false) (direct : Bool) (ed : direct ≡ isDirect s mode r) where
+      pub loose-direct : direct ≡ true → writeList s NoWrite ≡ looseOf s mode r
+      unfolding writeList looseOf
+      loose-direct t = rw (sym ek ∙ not-false keeps kept, sym eo ∙ so, sym ed ∙ t)
+
+      module _ (plain : direct ≡ false) (new : OptionTarget) (en : new ≡ newValue (changeIn r)) where
+        pub loose-absent : new ≡ Absent → writeList s NoWrite ≡ looseOf s mode r
+        unfolding writeList looseOf
+        loose-absent t = rw (sym ek ∙ not-false keeps kept, sym eo ∙ so, sym ed ∙ plain, sym en ∙ t)
+
+        pub loose-so : (v : Target) → new ≡ Present v → writeList s (WriteLoose (nameIn r) v) ≡ looseOf s mode r
+        unfolding writeList looseOf
+        loose-so v t = rw (sym ek ∙ not-false keeps kept, sym eo ∙ so, sym ed ∙ plain, sym en ∙ t)
+
+-- ---- W2
+
+module _ (s : Store) (r : Edit) (del : Bool) (ed : del ≡ isDelete (changeIn r)) where
+  pub log-update : not del ≡ true → writeList s NoWrite ≡ w2 s r
+  unfolding writeList w2
+  log-update t = rw (sym ed ∙ not-true del t)
+
+  module _ (yes : not del ≡ false) (has : Bool) (eh : has ≡ hasLines s (nameIn r)) where
+    pub log-none : not has ≡ true → writeList s NoWrite ≡ w2 s r
+    unfolding writeList w2
+    log-none t = rw (sym ed ∙ not-false del yes, sym eh ∙ not-true has t)
+
+    pub log-so : not has ≡ false → writeList s (RemoveLog (nameIn r)) ≡ w2 s r
+    unfolding writeList w2
+    log-so t = rw (sym ed ∙ not-false del yes, sym eh ∙ not-false has t)
+
+-- ---- W4
+
+pub goes-too : (s : Store) (mode : PackedRefs) (r : Edit) (del b : Bool) → del ≡ isDelete (changeIn r) → del ≡ false → b ≡ isDirect s mode r
+    → b ≡ (isDelete (changeIn r) || isDirect s mode r)
+goes-too s mode r del b e f h = rw (sym e ∙ f) h
+
+module _ (s : Store) (mode : PackedRefs) (r : Edit) (goes : Bool) (eg : goes ≡ (isDelete (changeIn r) || isDirect s mode r)) where
+  pub gone-not : not goes ≡ true → writeList s NoWrite ≡ w4 s mode r
+  unfolding writeList w4
+  gone-not t = rw (sym eg ∙ not-true goes t)
+
+  module _ (yes : not goes ≡ false) (only : Bool) (eo : only ≡ isLogOnly (changeIn r)) where
+    pub gone-only : only ≡ true → writeList s NoWrite ≡ w4 s mode r
+    unfolding writeList w4
+    gone-only t = rw (sym eg ∙ not-false goes yes, sym eo ∙ t)
+
+    module _ (so : only ≡ false) (v : Loose) (ev : v ≡ entryAt s (nameIn r .0) .loose) (none : Bool) (en : none ≡ isNone v) where
+      pub gone-none : none ≡ true → writeList s NoWrite ≡ w4 s mode r
+      unfolding writeList w4
+      gone-none t = rw (sym eg ∙ not-false goes yes, sym eo ∙ so, ← ev, sym en ∙ t)
+
+      pub gone-so : none ≡ false → writeList s (RemoveLoose (nameIn r)) ≡ w4 s mode r
+      unfolding writeList w4
+      gone-so t = rw (sym eg ∙ not-false goes yes, sym eo ∙ so, ← ev, sym en ∙ t)
+
+-- ---- W3
+
+delete-new : (c : Change) → isDelete c ≡ true → newValue c ≡ Absent
+delete-new (Update log expected new) e = absurd (let z : _≡_ {A = ℕ} 0 1 = cc in omega arith)
+delete-new (Delete expected log) e = refl
+
+pub set-object : (n : NameNumber) (new : OptionTarget) (t : Target) (oid : ObjectNumber) → new ≡ Present t → t ≡ Object oid
+    → packedList n (Sets (packed.Object oid)) ≡ packedSet n new
+set-object n new t oid e f = rw (e, f)
+
+pub set-link : (n m : NameNumber) (new : OptionTarget) (t : Target) → new ≡ Present t → t ≡ Symbolic m → packedList n NoPackedEdit ≡ packedSet n new
+set-link n m new t e f = rw (e, f)
+
+module _ (s : Store) (mode : PackedRefs) (r : Edit) (c : Bool) (ec : c ≡ counts s r) where
+  pub edit-none : not c ≡ true → packedList (nameIn r) NoPackedEdit ≡ packedEdit s mode r
+  unfolding packedEdit
+  edit-none t = rw (sym ec ∙ not-true c t)
+
+  module _ (yes : not c ≡ false) (del : Bool) (ed : del ≡ isDelete (changeIn r)) where
+    module _ (is : del ≡ true) (v : Packed) (ev : v ≡ entryAt s (nameIn r .0) .packed) (p : Bool) (ep : p ≡ isPacked v) where
+      no-set : (b : Bool) → cond b (packedSet (nameIn r) Absent) [] ≡ []
+      no-set true = refl
+      no-set false = refl
+
+      pub edit-gone : p ≡ true → packedList (nameIn r) (Sets packed.None) ≡ packedEdit s mode r
+      unfolding packedEdit
+      edit-gone t = rw (sym ec ∙ not-false c yes, delete-new (changeIn r) (sym ed ∙ is), no-set (packsUpdates mode), sym ed ∙ is, ← ev, sym ep ∙ t)
+
+      pub edit-absent : p ≡ false → packedList (nameIn r) NoPackedEdit ≡ packedEdit s mode r
+      unfolding packedEdit
+      edit-absent t = rw (sym ec ∙ not-false c yes, delete-new (changeIn r) (sym ed ∙ is), no-set (packsUpdates mode), sym ed ∙ is, ← ev, sym ep ∙ t)
+
+    module _ (isnt : del ≡ false) (m : ℕ) (em : m ≡ packedRefsNumber mode) where
+      pub edit-mode : m < 2 → packedList (nameIn r) NoPackedEdit ≡ packedEdit s mode r
+      unfolding packedEdit
+      edit-mode l = rw (sym ec ∙ not-false c yes, ap (leb 2) (sym em) ∙ lt-leb 2 m l, sym ed ∙ isnt)
+
+      pub edit-set : (o : OptionPackedEdit) (new : OptionTarget) → 2 ≤ m → new ≡ newValue (changeIn r) → packedList (nameIn r) o ≡ packedSet (nameIn r) new
+          → packedList (nameIn r) o ≡ packedEdit s mode r
+      unfolding packedEdit
+      edit-set o new l en h =
+          rw (sym ec ∙ not-false c yes, ap (leb 2) (sym em) ∙ le-leb 2 m l, sym ed ∙ isnt, append-nil, ← en) h

@@ -1,0 +1,163 @@
+-- What a place writes, made, leaves every later place as it is. Assumes nothing.
+use mathlib.Core.Path.{_≡_, refl, sym, ap, _∙_, subst}
+use mathlib.Core.Bool.{Bool, true, false, _&&_, _||_, not, cond}
+use mathlib.Core.List.{List, [], _∷_, _++_, map}
+use Prim.Native.Nat.{ℕ, suc, _+_, _-_, _≤_, _<_}
+use native.Mathlib.Omega.{arith}
+use lib.ListN.{length}
+use lib.Dec.{eqb, ltb}
+use borrow.Author.Tests.{eqb-true, eqb-false, ltb-true, ltb-false, lt-ltb, le-ltb}
+use Rattle.target.specs.declared.NameNumber.{NameNumber}
+use Rattle.target.specs.declared.ObjectNumber.{ObjectNumber}
+use Rattle.target.specs.declared.Target.{Target}
+use Rattle.target.specs.declared.OptionTarget.{OptionTarget}
+use Rattle.target.specs.declared.OptionTarget.the-variants.{Absent, Present}
+use Rattle.transaction.specs.declared.Change.{Change}
+use Rattle.transaction.specs.declared.Change.the-variants.{Update, Delete}
+use Rattle.transaction.specs.declared.Edit.{Edit}
+use Rattle.transaction.specs.Change.{newValue, isLogOnly, isDelete}
+use Rattle.model.specs.Basic.{isEmpty, when}
+use Rattle.model.specs.declared.Loose.the-variants as loose
+use Rattle.model.specs.declared.Line.{Line}
+use Rattle.model.specs.Store.{Store, entryOf, isNone, putLoose, changeEntry, withEntries, withLines}
+use Rattle.model.specs.Rows.{nameIn, changeIn, rowAt, opens, isDirect, keepsLock}
+use Rattle.model.specs.Due.{Stamp, Move, moveOf, hasLines, isLogged, lineBy, dueLine}
+use Rattle.model.specs.Writes.{Write, PackedEdit, apply, applyPacked, looseWrite, packedEdits, w2, w3, w4}
+use Rattle.model.specs.Writes.Write.{appendLine, writeLoose, removeLog, writePacked, removeLoose}
+use Rattle.writes.specs.Next.{rowsOf, modeOf, looseOf, firstAt, secondAt, places, ahead}
+use Rattle.writes.proofs.Stable.{Same, ahead-same}
+use Rattle.rows.specs.Rows.{Apart}
+use Rattle.writes.proofs.Keeps.{keeps-line, keeps-loose, keeps-log, keeps-packed, keeps-gone}
+
+-- ---- which write it is
+
+abbrev pub headOr : Write → List Write → Write
+headOr d [] = d
+headOr d (w ∷ ws) = w
+
+pub no-write : {P : Type 0} (w : Write) → [] ≡ w ∷ [] → P
+no-write w e = absurd (let z : _≡_ {A = ℕ} 0 1 = cc in omega arith)
+
+pub when-shape : (b : Bool) (x w : Write) → when b x ≡ w ∷ [] → x ≡ w
+when-shape true x w e = ap (headOr w) e
+when-shape false x w e = no-write w e
+
+pub line-shape : (b : Bool) (ms : List Move) (stamp : Stamp) (r : Edit) (w : Write) → map appendLine (cond b (map (lineBy stamp r) ms) []) ≡ w ∷ []
+    → (m : Move) × (appendLine (lineBy stamp r m) ≡ w) × (isEmpty ms ≡ false)
+line-shape true [] stamp r w e = no-write w e
+line-shape true (m ∷ ms) stamp r w e = (m, ap (headOr w) e, refl)
+line-shape false ms stamp r w e = no-write w e
+
+moving-updates : (c : Change) (leaf : ObjectNumber) → isEmpty (moveOf c leaf) ≡ false → isDelete c ≡ false
+moving-updates (Update log expected new) leaf e = refl
+moving-updates (Delete expected log) leaf e = absurd (let z : _≡_ {A = ℕ} 0 1 = cc in omega arith)
+
+pub loose-shape : (k o d : Bool) (n : NameNumber) (v : OptionTarget) (w : Write) → cond (k && not o && not d) (looseWrite n v) [] ≡ w ∷ []
+    → (t : Target) × (writeLoose n t ≡ w) × (d ≡ false) × (v ≡ Present t)
+loose-shape true false false n Absent w e = no-write w e
+loose-shape true false false n (Present t) w e = (t, ap (headOr w) e, refl, refl)
+loose-shape true false true n v w e = no-write w e
+loose-shape true true d n v w e = no-write w e
+loose-shape false o d n v w e = no-write w e
+
+valued-updates : (c : Change) (t : Target) → newValue c ≡ Present t → isDelete c ≡ false
+valued-updates (Update log expected new) t e = refl
+valued-updates (Delete expected log) t e = absurd (let z : _≡_ {A = ℕ} 0 1 = cc in omega arith)
+
+-- past W1 a place has no second write, whatever the store
+second-none : (s : Store) (k : ℕ) → length (rowsOf s) ≤ k → secondAt s k ≡ []
+unfolding secondAt
+second-none s k h = rw (le-ltb k (length (rowsOf s)) h)
+
+module _ (stamp : Stamp) (s : Store) (a : Apart (rowsOf s)) (k m : ℕ) (room : suc k + m ≤ places s) where
+  -- the rest of the list, as it was
+  abbrev Stays : Write → Type 0
+  Stays w = (secondAt (apply w s) k ≡ secondAt s k) × (ahead stamp (apply w s) (suc k) m ≡ ahead stamp s (suc k) m)
+
+  second-lines : (ls : List Line) → secondAt (withLines s ls) k ≡ secondAt s k
+  unfolding secondAt looseOf keepsLock isDirect
+  second-lines ls = refl
+
+  made-line : (v : Move) → k < length (rowsOf s) → isDelete (changeIn (rowAt (rowsOf s) k)) ≡ false → Stays (appendLine (lineBy stamp (rowAt (rowsOf s) k) v))
+  unfolding apply
+  made-line v h d = (second-lines _, ahead-same stamp s _ (suc k) (keeps-line stamp s a k (lineBy stamp (rowAt (rowsOf s) k) v) h refl d) m (suc k) (omega arith) room)
+
+  stays-line : (w : Write) → k < length (rowsOf s) → map appendLine (dueLine stamp s (rowAt (rowsOf s) k)) ≡ w ∷ [] → Stays w
+  unfolding dueLine
+  stays-line w h e =
+      let sh = line-shape (isLogged s (rowAt (rowsOf s) k)) (moveOf (changeIn (rowAt (rowsOf s) k)) (rowAt (rowsOf s) k .«leaf_referent_previous_oid»)) stamp (rowAt (rowsOf s) k) w e in
+      subst Stays (sh .1) (made-line (sh .0) h (moving-updates (changeIn (rowAt (rowsOf s) k)) _ (sh .2)))
+
+  made-log : (j : ℕ) → j < length (rowsOf s) → k ≡ length (rowsOf s) + j → Stays (removeLog (nameIn (rowAt (rowsOf s) j)))
+  unfolding apply
+  made-log j h e = (second-lines _, ahead-same stamp s _ (suc k) (keeps-log stamp s a k j h e) m (suc k) (omega arith) room)
+
+  stays-log : (w : Write) (j : ℕ) → j < length (rowsOf s) → k ≡ length (rowsOf s) + j → w2 s (rowAt (rowsOf s) j) ≡ w ∷ [] → Stays w
+  unfolding w2
+  stays-log w j h q e = subst Stays (when-shape (isDelete (changeIn (rowAt (rowsOf s) j)) && hasLines s (nameIn (rowAt (rowsOf s) j))) (removeLog (nameIn (rowAt (rowsOf s) j))) w e) (made-log j h q)
+
+  made-packed : (ps : List PackedEdit) → k ≡ length (rowsOf s) + length (rowsOf s) → Stays (writePacked ps)
+  unfolding apply
+  made-packed ps e = (
+    second-none (withEntries s (applyPacked ps (s .entries))) k (omega arith) ∙ sym (second-none s k (omega arith)),
+    ahead-same stamp s _ (suc k) (keeps-packed stamp s a k ps e) m (suc k) (omega arith) room,
+  )
+
+  stays-packed : (w : Write) → k ≡ length (rowsOf s) + length (rowsOf s) → w3 s (modeOf s) (rowsOf s) ≡ w ∷ [] → Stays w
+  unfolding w3
+  stays-packed w q e = subst Stays (when-shape (opens s (modeOf s) (rowsOf s) && not (isEmpty (packedEdits s (modeOf s) (rowsOf s)))) (writePacked (packedEdits s (modeOf s) (rowsOf s))) w e) (made-packed (packedEdits s (modeOf s) (rowsOf s)) q)
+
+  made-gone : (j : ℕ) → j < length (rowsOf s) → k ≡ length (rowsOf s) + length (rowsOf s) + 1 + j → Stays (removeLoose (nameIn (rowAt (rowsOf s) j)))
+  unfolding apply
+  made-gone j h e = (
+    second-none (changeEntry (putLoose loose.None) (nameIn (rowAt (rowsOf s) j) .0) s) k (omega arith) ∙ sym (second-none s k (omega arith)),
+    ahead-same stamp s _ (suc k) (keeps-gone stamp s a k loose.None j h e) m (suc k) (omega arith) room,
+  )
+
+  stays-gone : (w : Write) (j : ℕ) → j < length (rowsOf s) → k ≡ length (rowsOf s) + length (rowsOf s) + 1 + j → w4 s (modeOf s) (rowAt (rowsOf s) j) ≡ w ∷ [] → Stays w
+  unfolding w4
+  stays-gone w j h q e = subst Stays (when-shape ((isDelete (changeIn (rowAt (rowsOf s) j)) || isDirect s (modeOf s) (rowAt (rowsOf s) j)) && not (isLogOnly (changeIn (rowAt (rowsOf s) j))) && not (isNone (entryOf s (nameIn (rowAt (rowsOf s) j)) .loose))) (removeLoose (nameIn (rowAt (rowsOf s) j))) w e) (made-gone j h q)
+
+  -- whatever the place writes first
+  pub first-stays : (w : Write) → firstAt stamp s k ≡ w ∷ [] → Stays w
+  unfolding firstAt
+  first-stays w e = go (ltb k (length (rowsOf s))) refl e
+    where
+      last : (b c : Bool) → ltb (k - length (rowsOf s)) (length (rowsOf s)) ≡ b → eqb (k - length (rowsOf s)) (length (rowsOf s)) ≡ c → length (rowsOf s) ≤ k
+          → cond b (w2 s (rowAt (rowsOf s) (k - length (rowsOf s))))
+          (cond c (w3 s (modeOf s) (rowsOf s)) (w4 s (modeOf s) (rowAt (rowsOf s) (k - length (rowsOf s) - length (rowsOf s) - 1)))) ≡ w ∷ [] → Stays w
+      last true c p q l h = stays-log w (k - length (rowsOf s)) (ltb-true _ _ p) (omega arith) h
+      last false true p q l h = let d : k - length (rowsOf s) ≡ length (rowsOf s) = eqb-true _ _ q in stays-packed w (omega arith) h
+      last false false p q l h =
+          let d : length (rowsOf s) ≤ k - length (rowsOf s) = ltb-false (k - length (rowsOf s)) (length (rowsOf s)) p in
+          let f : k - length (rowsOf s) ≡ length (rowsOf s) → ⊥ = eqb-false (k - length (rowsOf s)) (length (rowsOf s)) q in
+          stays-gone w (k - length (rowsOf s) - length (rowsOf s) - 1) (omega arith) (omega arith) h
+
+      go : (b : Bool) → ltb k (length (rowsOf s)) ≡ b
+          → cond b (map appendLine (dueLine stamp s (rowAt (rowsOf s) k)))
+          (cond (ltb (k - length (rowsOf s)) (length (rowsOf s))) (w2 s (rowAt (rowsOf s) (k - length (rowsOf s))))
+          (cond (eqb (k - length (rowsOf s)) (length (rowsOf s))) (w3 s (modeOf s) (rowsOf s)) (w4 s (modeOf s) (rowAt (rowsOf s) (k - length (rowsOf s) - length (rowsOf s) - 1)))))
+          ≡ w ∷ [] → Stays w
+      go true p h = stays-line w (ltb-true k (length (rowsOf s)) p) h
+      go false p h = last (ltb (k - length (rowsOf s)) (length (rowsOf s))) (eqb (k - length (rowsOf s)) (length (rowsOf s))) refl refl (ltb-false k (length (rowsOf s)) p) h
+
+  made-loose : (t : Target) → k < length (rowsOf s) → isDelete (changeIn (rowAt (rowsOf s) k)) ≡ false → isDirect s (modeOf s) (rowAt (rowsOf s) k) ≡ false
+      → ahead stamp (apply (writeLoose (nameIn (rowAt (rowsOf s) k)) t) s) (suc k) m ≡ ahead stamp s (suc k) m
+  unfolding apply
+  made-loose t h d f = ahead-same stamp s _ (suc k) (keeps-loose stamp s a k (loose.Target t) h d f) m (suc k) (omega arith) room
+
+  -- and whatever it writes second
+  pub second-stays : (w : Write) → secondAt s k ≡ w ∷ [] → ahead stamp (apply w s) (suc k) m ≡ ahead stamp s (suc k) m
+  unfolding secondAt looseOf
+  second-stays w e = go (ltb k (length (rowsOf s))) refl e
+    where
+      go : (b : Bool) → ltb k (length (rowsOf s)) ≡ b
+          → cond b (cond (keepsLock s (modeOf s) (rowAt (rowsOf s) k) && not (isLogOnly (changeIn (rowAt (rowsOf s) k))) && not (isDirect s (modeOf s) (rowAt (rowsOf s) k)))
+          (looseWrite (nameIn (rowAt (rowsOf s) k)) (newValue (changeIn (rowAt (rowsOf s) k)))) []) []
+          ≡ w ∷ [] → ahead stamp (apply w s) (suc k) m ≡ ahead stamp s (suc k) m
+      go true p h =
+          let sh = loose-shape (keepsLock s (modeOf s) (rowAt (rowsOf s) k)) (isLogOnly (changeIn (rowAt (rowsOf s) k))) (isDirect s (modeOf s) (rowAt (rowsOf s) k))
+          (nameIn (rowAt (rowsOf s) k)) (newValue (changeIn (rowAt (rowsOf s) k))) w h in
+          subst (λ (w : Write). ahead stamp (apply w s) (suc k) m ≡ ahead stamp s (suc k) m) (sh .1)
+          (made-loose (sh .0) (ltb-true k (length (rowsOf s)) p) (valued-updates (changeIn (rowAt (rowsOf s) k)) (sh .0) (sh .3)) (sh .2))
+      go false p h = no-write w h

@@ -1,0 +1,22 @@
+use borrow.Author.Needs.{needs}
+use Rattle.writes.proofs.Says.{line-none, line-due}
+use Rattle.writes.proofs.next_line.Statement.{statement}
+use Rattle.writes.proofs.next_line.Tie as tie
+
+due-line-requires : tie.Need-due-line-requires
+due-line-requires c κs = search needs
+
+enum-known-line : tie.Need-enum-known-line
+enum-known-line c = search needs
+
+enum-told : tie.Need-enum-told
+enum-told c = search needs
+
+returns : tie.Need-returns
+returns c = search line-none
+
+returns-2 : tie.Need-returns-2
+returns-2 c = search line-due
+
+pub next-line-spec : {M : Type 1} → statement M
+next-line-spec = tie.close (tie.spec due-line-requires enum-known-line enum-told returns returns-2)
