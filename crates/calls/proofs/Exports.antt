@@ -70,7 +70,7 @@ unchanged c r a n a′ lent d not-done not-16 not-17 = go (eqb (length a) 128) (
 -- ---- what is got decodes to a reached store
 
 -- of one lent buffer, what holds of the list holds of it
-only : (r r′ : List ℕ) → r ∷ [] ≡ r′ ∷ [] → r ≡ r′
+pub only : (r r′ : List ℕ) → r ∷ [] ≡ r′ ∷ [] → r ≡ r′
 only r r′ e = cc
 
 -- a region that decodes has the size that start asks for
@@ -104,6 +104,17 @@ left-image (refused x) r s e = e
 reached-image : (r : List ℕ) (s : Store) → Reached s → r ≡ image s → (t : Store) × (decode r ≡ some t) × Reached t
 reached-image r s reached e = (s, ap decode e ∙ decode-image s (reached-sound s reached .fine), reached)
 
+-- a call with a record of 128 bytes does the model's step,
+pub does-step : (c : Call) (r a : List ℕ) (s : Store) → decode r ≡ some s → length a ≡ 128 → call c r a ≡ outOf (step c s) r
+unfolding call
+does-step c r a s e l = rw (eq-eqb (length a) 128 l) (ap (λ (reply : Reply). outOf reply r) (replies-to c r s e))
+
+-- and the region is the image of the store that the step leaves
+pub step-image : (c : Call) (r r′ : List ℕ) (s : Store) → decode r ≡ some s → r′ ∷ [] ≡ outOf (step c s) r .lent
+    → r′ ≡ image (leaves (step c s) s)
+unfolding outOf
+step-image c r r′ s e f = only r′ (regionAfter (step c s) r) f ∙ left-image (step c s) r s (sym (decoded r s e .1))
+
 -- one call more
 goes-on : (c : Call) (r a : List ℕ) (n : ℕ) (a′ r′ : List ℕ) (s : Store) → decode r ≡ some s → Reached s → Did (call c r a) n a′ (r′ ∷ [])
     → (t : Store) × (decode r′ ≡ some t) × Reached t
@@ -114,7 +125,7 @@ goes-on c r a n a′ r′ s e reached d = go (eqb (length a) 128) (d .lent)
     go false f = (s, ap decode (only r′ r f) ∙ e, reached)
     go true f =
         reached-image r′ (leaves (step c s) s) (after reached c)
-        (only r′ (regionAfter (replyTo c r) r) f ∙ ap (λ (reply : Reply). regionAfter reply r) (replies-to c r s e) ∙ left-image (step c s) r s (sym (decoded r s e .1)))
+        (step-image c r r′ s e (f ∙ ap (λ (reply : Reply). outOf reply r .lent) (replies-to c r s e)))
 
 -- ---- start
 

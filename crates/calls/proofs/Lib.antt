@@ -3,3 +3,7 @@ pub mod Laws
 pub mod Known
 pub mod Exports
 pub mod Turns
+pub mod Answered
+pub mod Ended
+pub mod Stopped
+pub mod Demand3

@@ -15,7 +15,6 @@ use Rattle.transaction.specs.Change.{isDelete}
 use Rattle.transaction.specs.Fields.{packedRefsNumber}
 use Rattle.model.specs.declared.Lock.the-variants.{Foreign, Ours}
 use Rattle.model.specs.Store.{entryAt, linesOf, modeIn, isPrepared, isLock}
-use Rattle.model.specs.Read.{reading}
 use Rattle.model.specs.Rows.{nameIn, changeIn, rowAt}
 use Rattle.model.specs.Writes.{writes}
 use Rattle.model.specs.Reply.Call.{commit, readName}
