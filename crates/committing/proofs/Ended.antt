@@ -4,17 +4,16 @@ use mathlib.Core.Bool.{Bool, true, false, not}
 use mathlib.Core.List.{List, [], _∷_}
 use mathlib.Core.Option.{none}
 use Prim.Native.Nat.{ℕ, _≤_, _<_}
-use Rattle.model.specs.declared.Refusal.the-variants.{Malformed, WrongState}
-use Rattle.model.specs.Store.{Store, Prepared, isPrepared}
+use Rattle.model.specs.declared.Refusal.the-variants.{WrongState}
+use Rattle.model.specs.Store.{Store, isPrepared}
 use Rattle.model.specs.Commit.{Run, released, committing}
 use Rattle.model.specs.Demand3.{by}
-use Rattle.model.specs.Reply.{Reply}
 use Rattle.model.specs.Reply.Call.{commit}
 use Rattle.model.specs.Reply.Reply.{refused}
 use Rattle.model.specs.Calls.{ended, committed, step}
 use Rattle.model.specs.Numbers.{answer, answerOf, refusalAnswer}
 use Rattle.model.proofs.Commits.{commit-runs, commit-refuses}
-use Rattle.region.specs.Region.{modeByte, view, good, nameOffset, Became}
+use Rattle.region.specs.Region.{modeByte, view, good, Became}
 use Rattle.region.proofs.Read.{is-prepared, not-prepared}
 use Rattle.region.proofs.Decode.{became-image}
 use Rattle.answers.specs.declared.Verdict.{Verdict}

@@ -1,18 +1,18 @@
 -- One turn of the run, by its ways out. Assumes nothing.
-use mathlib.Core.Path.{_≡_, refl, sym, ap, ap₂, _∙_, subst}
-use mathlib.Core.Bool.{Bool, true, false, _&&_, not, cond}
+use mathlib.Core.Path.{_≡_, refl, sym, ap, _∙_}
+use mathlib.Core.Bool.{Bool, true, false, _&&_, not}
 use mathlib.Core.List.{List, [], _∷_, _++_}
 use mathlib.Core.Logic._⊎_.{inl, inr}
 use mathlib.Core.Option.{Option, none, some}
-use Prim.Native.Nat.{ℕ, zero, suc, _+_, _-_, _≤_, _<_}
+use Prim.Native.Nat.{ℕ, suc, _+_, _-_}
 use native.Mathlib.Omega.{arith}
 use lib.Dec.{eqb}
 use borrow.Author.Tests.{not-true, not-false}
 use Rattle.model.specs.Store.{Store}
 use Rattle.model.specs.Due.{Stamp}
-use Rattle.model.specs.Writes.{Write, apply}
-use Rattle.model.specs.Commit.{Run, Stop, isLine, run}
-use Rattle.model.specs.Commit.Stop.{noCommitter, usedUp}
+use Rattle.model.specs.Writes.{Write}
+use Rattle.model.specs.Commit.{Stop, isLine, run}
+use Rattle.model.specs.Commit.Stop.{usedUp}
 use Rattle.model.specs.Demand3.{by, applyAll}
 use Rattle.model.proofs.Stops.{run-stops, run-goes}
 use Rattle.region.specs.Region.{view, Laid, Became}

@@ -2,20 +2,18 @@
 -- nothing.
 use mathlib.Core.Path.{_≡_, refl, sym, ap, ap₂, _∙_, subst}
 use mathlib.Core.List.{List, [], _∷_, _++_}
-use mathlib.Core.Option.{Option, none, some}
-use Prim.Native.Nat.{ℕ, zero, suc, _+_, _*_, _-_, _≤_, _<_}
+use mathlib.Core.Option.{Option}
+use Prim.Native.Nat.{ℕ, suc, _+_, _*_, _-_, _≤_, _<_}
 use native.Mathlib.Omega.{arith}
 use native.Mathlib.Numerals.{add-one}
 use lib.ListN.{length}
-use Rattle.transaction.specs.declared.Edit.{Edit}
 use Rattle.model.specs.Store.{Store, Prepared, count, rowsIn}
-use Rattle.model.specs.Rows.{nameIn, rowAt}
-use Rattle.model.specs.Due.{Stamp, dueLines}
+use Rattle.model.specs.Due.{Stamp}
 use Rattle.model.specs.Writes.{Write, apply, writes}
-use Rattle.model.specs.Commit.{Run, Stop, linesIn, run, committing}
+use Rattle.model.specs.Commit.{Run, linesIn, run, committing}
 use Rattle.model.specs.Fine.{Fine}
 use Rattle.model.specs.Demand3.{by}
-use Rattle.model.proofs.FineEdit.{FineEdit, row-edit}
+use Rattle.model.proofs.FineEdit.{row-edit}
 use Rattle.model.proofs.KeptCommit.{apply-room, lines-append, writes-lines}
 use Rattle.model.proofs.RowFacts.{alone, held}
 use Rattle.region.specs.Region.{view, Laid}

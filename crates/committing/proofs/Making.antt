@@ -1,42 +1,22 @@
 -- Each write, made; and what it needs. Assumes nothing.
-use mathlib.Core.Path.{_≡_, refl, sym, ap, ap₂, _∙_, subst}
-use mathlib.Core.Bool.{Bool, true, false, _&&_, not, cond}
+use mathlib.Core.Path.{_≡_, refl, subst}
+use mathlib.Core.Bool.{not}
 use mathlib.Core.List.{List, [], _∷_, _++_}
-use Prim.Native.Nat.{ℕ, zero, suc, _+_, _-_, _≤_, _<_}
-use native.Mathlib.Omega.{arith}
-use native.Mathlib.Numerals.{add-one}
-use lib.ListN.{length, getD, drop, drop-of-length-le, length-drop, length-set}
-use lib.Seq.{drop-cons, getD-drop}
+use Prim.Native.Nat.{ℕ, _<_}
+use lib.ListN.{length}
 use Rattle.target.specs.declared.NameNumber.{NameNumber}
-use Rattle.target.specs.declared.OptionTarget.{OptionTarget}
-use Rattle.target.specs.declared.OptionTarget.the-variants.{Absent, Present}
 use Rattle.target.specs.declared.Target.{Target}
-use Rattle.target.specs.declared.Target.the-variants.{Object, Symbolic}
-use Rattle.transaction.specs.declared.PackedRefs.{PackedRefs}
-use Rattle.transaction.specs.declared.Edit.{Edit}
-use Rattle.transaction.specs.Change.{newValue, isDelete}
-use Rattle.model.specs.declared.Packed.{Packed}
-use Rattle.model.specs.declared.Packed.the-variants as packed
 use Rattle.model.specs.declared.Loose.the-variants as loose
 use Rattle.model.specs.declared.Line.{Line}
-use Rattle.model.specs.Basic.{collect, when, select}
-use Rattle.model.specs.Store.{Store, Entry, noEntry, noRow, count, entryAt, entryOf, rowsIn, modeIn, isOf, isPacked, putLoose, putPacked, changeAt, changeEntry, withEntries, withLines}
-use Rattle.model.specs.Rows.{nameIn, changeIn, rowAt, counts, packsUpdates}
-use Rattle.model.specs.Writes.{PackedEdit, apply, applyPacked, packedSet, packedEdit, packedEdits}
-use Rattle.model.specs.Writes.Write.{writePacked}
+use Rattle.model.specs.Basic.{select}
+use Rattle.model.specs.Store.{Store, count, rowsIn, modeIn, isOf, putLoose, changeEntry, withEntries, withLines}
+use Rattle.model.specs.Writes.{apply, applyPacked, packedEdits}
 use Rattle.model.specs.Demand3.{applyAll}
-use Rattle.model.proofs.Switch.{whole, quiet-step}
-use Rattle.model.proofs.Touch.{entry-after}
-use Rattle.model.proofs.RowSteps.{other-packed}
-use Rattle.slots.specs.Values.{FitsTarget, FitsPacked, FitsLine}
-use Rattle.slots.specs.Row.{FitsOption, FitsRow}
+use Rattle.slots.specs.Values.{FitsTarget, FitsLine}
 use Rattle.region.specs.Region.{view, Laid, Became}
-use Rattle.region.proofs.Decode.{laid-image}
 use Rattle.writes.specs.declared.OptionWrite.{OptionWrite}
 use Rattle.writes.specs.declared.OptionWrite.the-variants as next
-use Rattle.writes.specs.declared.OptionPackedEdit.{OptionPackedEdit}
-use Rattle.writes.specs.declared.OptionPackedEdit.the-variants.{NoPackedEdit, Sets}
-use Rattle.writes.specs.Next.{packedList, writeList}
+use Rattle.writes.specs.Next.{writeList}
 use Rattle.rows.specs.Rows.{Named, Apart}
 use Rattle.committing.specs.Running.{Makes}
 

@@ -1,18 +1,14 @@
 -- Whatever a place has to write can be made. Assumes nothing.
 use mathlib.Core.Path.{_≡_, refl, sym, ap, _∙_, subst}
 use mathlib.Core.Bool.{Bool, true, false, _&&_, _||_, not, cond}
-use mathlib.Core.List.{List, [], _∷_, _++_, map}
-use Prim.Native.Nat.{ℕ, suc, _+_, _-_, _≤_, _<_, _^_}
+use mathlib.Core.List.{List, [], _∷_, map}
+use Prim.Native.Nat.{ℕ, _+_, _-_, _≤_, _<_, _^_}
 use native.Mathlib.Omega.{arith}
 use lib.ListN.{length}
 use lib.Dec.{eqb, ltb, lit<}
-use borrow.Author.Tests.{eqb-true, eqb-false, ltb-true, ltb-false}
-use Rattle.target.specs.declared.NameNumber.{NameNumber}
+use borrow.Author.Tests.{eqb-false, ltb-true, ltb-false}
 use Rattle.target.specs.declared.ObjectNumber.{ObjectNumber}
-use Rattle.target.specs.declared.Target.{Target}
 use Rattle.target.specs.declared.Target.the-variants.{Object, Symbolic}
-use Rattle.target.specs.declared.OptionTarget.{OptionTarget}
-use Rattle.target.specs.declared.OptionTarget.the-variants.{Absent, Present}
 use Rattle.target.specs.Target.{sameObject}
 use Rattle.transaction.specs.declared.PreviousValue.{PreviousValue}
 use Rattle.transaction.specs.declared.PreviousValue.the-variants.{Any, MustExist, MustNotExist, MustExistAndMatch, ExistingMustMatch}
@@ -23,8 +19,8 @@ use Rattle.transaction.specs.Change.{newValue, previousValue, expectedTarget, i
 use Rattle.model.specs.Basic.{isEmpty, when}
 use Rattle.model.specs.Store.{Store, count, entryOf, isNone}
 use Rattle.model.specs.Rows.{nameIn, changeIn, rowAt, opens, isDirect, keepsLock}
-use Rattle.model.specs.Due.{Stamp, Move, null, orLeaf, moveOf, hasLines, isLogged, lineBy, dueLine}
-use Rattle.model.specs.Writes.{Write, looseWrite, packedEdits, w2, w3, w4}
+use Rattle.model.specs.Due.{Move, orLeaf, moveOf, hasLines, isLogged, lineBy, dueLine}
+use Rattle.model.specs.Writes.{Write, packedEdits, w2, w3, w4}
 use Rattle.model.specs.Writes.Write.{appendLine, writeLoose, removeLog, writePacked, removeLoose}
 use Rattle.model.specs.Commit.{isLine, linesIn}
 use Rattle.model.specs.Demand3.{by}
@@ -38,7 +34,7 @@ use Rattle.writes.specs.declared.OptionWrite.the-variants as next
 use Rattle.writes.specs.Next.{rowsOf, modeOf, writeList, looseOf, firstAt, secondAt, places}
 use Rattle.rows.specs.Rows.{Named, Apart}
 use Rattle.committing.specs.Running.{Makes, isNoWrite}
-use Rattle.writes.proofs.Steps.{headOr, no-write, when-shape, line-shape, loose-shape}
+use Rattle.writes.proofs.Steps.{headOr, no-write, when-shape, loose-shape}
 use Rattle.committing.proofs.Judge.{shape}
 
 -- ---- a move fits where its row does

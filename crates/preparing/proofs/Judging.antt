@@ -1,10 +1,9 @@
 -- The rows that are built are judged part by part, each on the rows that the one before it left. Assumes nothing.
-use mathlib.Core.Path.{_≡_, refl, sym, ap, ap₂, subst, _∙_}
+use mathlib.Core.Path.{_≡_, refl, sym, ap, ap₂, _∙_}
 use mathlib.Core.Bool.{Bool, true, false, not, _&&_, and-true}
-use mathlib.Core.List.{List, [], map}
+use mathlib.Core.List.{List, map}
 use mathlib.Core.Option.{Option, none, some}
-use Prim.Native.Nat.{ℕ, _+_, _<_, _≤_}
-use native.Mathlib.Omega.{arith}
+use Prim.Native.Nat.{ℕ, _+_}
 use lib.ListN.{length}
 use lib.Dec.{ltb, leb}
 use borrow.Author.Tests.{not-true, not-false, leb-true, leb-false, lt-ltb, le-ltb}
@@ -19,9 +18,9 @@ use Rattle.model.specs.declared.Judged.the-variants.{Passed, Refused}
 use Rattle.model.specs.declared.Refusal.{Refusal}
 use Rattle.model.specs.declared.Refusal.the-variants.{PackedTransactionAcquire, LogFull}
 use Rattle.model.specs.Basic.{any}
-use Rattle.model.specs.Store.{Store, Prepared, rowsIn, modeIn, isLock, isPrepared, rowsAs, withPrepared, withRows}
+use Rattle.model.specs.Store.{Store, Prepared, rowsIn, modeIn, isLock, rowsAs, withPrepared, withRows}
 use Rattle.model.specs.Rows.{counts, opens}
-use Rattle.model.specs.Due.{dueLine, dueLines, isLogged}
+use Rattle.model.specs.Due.{dueLines}
 use Rattle.model.specs.Outcome.{Outcome, _>>=_, _>>_, refuseIf}
 use Rattle.model.specs.Outcome.Outcome.{refuse, pass}
 use Rattle.model.specs.Fine.{Upward, fineRoom}

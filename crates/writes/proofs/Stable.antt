@@ -9,20 +9,17 @@ use lib.ListN.{length, getD}
 use lib.Dec.{ltb, eqb}
 use borrow.Author.Tests.{eqb-true, eqb-false, ne-eqb, ltb-true, ltb-false}
 use Rattle.target.specs.declared.NameNumber.{NameNumber}
-use Rattle.target.specs.declared.Target.{Target}
 use Rattle.transaction.specs.declared.PackedRefs.{PackedRefs}
 use Rattle.transaction.specs.declared.Edit.{Edit}
-use Rattle.transaction.specs.Change.{newValue, isLogOnly, isDelete}
+use Rattle.transaction.specs.Change.{isDelete}
 use Rattle.model.specs.declared.Loose.{Loose}
-use Rattle.model.specs.declared.Loose.the-variants as loose
 use Rattle.model.specs.declared.Line.{Line}
 use Rattle.model.specs.Basic.{any, select, collect, isEmpty, when}
-use Rattle.model.specs.Names.{packable, logs, isDisabled}
-use Rattle.model.specs.Store.{Store, Prepared, rowsIn, modeIn, Entry, noEntry, entryAt, entryOf, nameOf, isOf, isNone, isPacked, linesOf, putLoose, putPacked, changeAt, changeEntry, withEntries, withLines}
+use Rattle.model.specs.Store.{Store, Prepared, rowsIn, modeIn, Entry, noEntry, entryOf, nameOf, isOf, isPacked, linesOf, putLoose, putPacked, changeAt, changeEntry, withEntries, withLines}
 use Rattle.model.specs.Rows.{nameIn, changeIn, rowAt, counts, countsAsUpdate, opens, isDirect, keepsLock}
 use Rattle.model.specs.Due.{Stamp, hasLines, isLogged, dueLine}
-use Rattle.model.specs.Writes.{Write, PackedEdit, apply, applyPacked, packedEdit, packedEdits, w2, w3, w4}
-use Rattle.model.specs.Writes.Write.{appendLine, writeLoose, removeLog, writePacked, removeLoose}
+use Rattle.model.specs.Writes.{Write, PackedEdit, apply, applyPacked, packedEdit, w2, w3, w4}
+use Rattle.model.specs.Writes.Write.{appendLine, removeLog, writePacked}
 use Rattle.model.proofs.Base.{changed-keeps, changed-other}
 use Rattle.model.proofs.Touch.{log-after}
 use Rattle.writes.specs.Next.{rowsOf, modeOf, looseOf, firstBy, secondBy, firstAt, secondAt, places, ahead}

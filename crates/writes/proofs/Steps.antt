@@ -1,12 +1,12 @@
 -- What a place writes, made, leaves every later place as it is. Assumes nothing.
 use mathlib.Core.Path.{_≡_, refl, sym, ap, _∙_, subst}
 use mathlib.Core.Bool.{Bool, true, false, _&&_, _||_, not, cond}
-use mathlib.Core.List.{List, [], _∷_, _++_, map}
+use mathlib.Core.List.{List, [], _∷_, map}
 use Prim.Native.Nat.{ℕ, suc, _+_, _-_, _≤_, _<_}
 use native.Mathlib.Omega.{arith}
 use lib.ListN.{length}
 use lib.Dec.{eqb, ltb}
-use borrow.Author.Tests.{eqb-true, eqb-false, ltb-true, ltb-false, lt-ltb, le-ltb}
+use borrow.Author.Tests.{eqb-true, eqb-false, ltb-true, ltb-false, le-ltb}
 use Rattle.target.specs.declared.NameNumber.{NameNumber}
 use Rattle.target.specs.declared.ObjectNumber.{ObjectNumber}
 use Rattle.target.specs.declared.Target.{Target}
@@ -25,7 +25,7 @@ use Rattle.model.specs.Due.{Stamp, Move, moveOf, hasLines, isLogged, lineBy, du
 use Rattle.model.specs.Writes.{Write, PackedEdit, apply, applyPacked, looseWrite, packedEdits, w2, w3, w4}
 use Rattle.model.specs.Writes.Write.{appendLine, writeLoose, removeLog, writePacked, removeLoose}
 use Rattle.writes.specs.Next.{rowsOf, modeOf, looseOf, firstAt, secondAt, places, ahead}
-use Rattle.writes.proofs.Stable.{Same, ahead-same}
+use Rattle.writes.proofs.Stable.{ahead-same}
 use Rattle.rows.specs.Rows.{Apart}
 use Rattle.writes.proofs.Keeps.{keeps-line, keeps-loose, keeps-log, keeps-packed, keeps-gone}
 

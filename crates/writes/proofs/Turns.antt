@@ -1,11 +1,10 @@
 -- The write of a place, by what stands at the place. Assumes nothing.
-use mathlib.Core.Path.{_≡_, refl, sym, ap, ap₂, _∙_}
-use mathlib.Core.Bool.{Bool, true, false, _&&_, _||_, not, cond}
+use mathlib.Core.Path.{_≡_, refl, sym, ap, _∙_}
+use mathlib.Core.Bool.{Bool, true, false, _||_, not}
 use mathlib.Core.List.{List, [], _∷_, _++_, map}
-use Prim.Native.Nat.{ℕ, _+_, _-_, _≤_, _<_}
+use Prim.Native.Nat.{ℕ, _-_, _≤_, _<_}
 use native.Mathlib.Omega.{arith}
 use lib.ListN.{length}
-use lib.Dec.{ltb, eqb}
 use borrow.Author.Tests.{lt-ltb, le-ltb, eq-eqb, ne-eqb, not-true, not-false}
 use Rattle.target.specs.declared.NameNumber.{NameNumber}
 use Rattle.transaction.specs.declared.PackedRefs.{PackedRefs}
@@ -15,7 +14,7 @@ use Rattle.model.specs.Basic.{any, isEmpty, collect}
 use Rattle.model.specs.Store.{Store, count, rowsIn, modeIn}
 use Rattle.model.specs.Rows.{nameIn, rowAt, opens}
 use Rattle.model.specs.Due.{Stamp, dueLine}
-use Rattle.model.specs.Writes.{Write, PackedEdit, packedEdit, packedEdits, w2, w3, w4}
+use Rattle.model.specs.Writes.{PackedEdit, packedEdit, packedEdits, w2, w3, w4}
 use Rattle.model.specs.Writes.Write.{appendLine}
 use Rattle.rows.specs.Rows.{Named}
 use Rattle.writes.specs.declared.OptionWrite.{OptionWrite}

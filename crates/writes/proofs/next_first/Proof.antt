@@ -1,4 +1,4 @@
-use Rattle.writes.proofs.Turns.{row-named, gone-named, at-line, at-log, at-packed, at-gone}
+use Rattle.writes.proofs.Turns.{gone-named, at-line, at-log, at-packed, at-gone}
 use borrow.Author.Needs.{needs}
 use Rattle.writes.proofs.next_first.Statement.{statement}
 use Rattle.writes.proofs.next_first.Tie as tie
@@ -10,7 +10,7 @@ row-at-requires : tie.Need-row-at-requires
 row-at-requires c κs = search needs
 
 next-line-requires : tie.Need-next-line-requires
-next-line-requires c κs = search (needs, row-named)
+next-line-requires c κs = search needs
 
 returns : tie.Need-returns
 returns c = search at-line
