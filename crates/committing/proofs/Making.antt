@@ -9,14 +9,14 @@ use Rattle.target.specs.declared.Target.{Target}
 use Rattle.model.specs.declared.Loose.the-variants as loose
 use Rattle.model.specs.declared.Line.{Line}
 use Rattle.model.specs.Basic.{select}
-use Rattle.model.specs.Store.{Store, count, rowsIn, modeIn, isOf, putLoose, changeEntry, withEntries, withLines}
+use Rattle.model.specs.Store.{Store, count, isOf, putLoose, changeEntry, withEntries, withLines}
 use Rattle.model.specs.Writes.{apply, applyPacked, packedEdits}
 use Rattle.model.specs.Demand3.{applyAll}
 use Rattle.slots.specs.Values.{FitsTarget, FitsLine}
 use Rattle.region.specs.Region.{view, Laid, Became}
 use Rattle.writes.specs.declared.OptionWrite.{OptionWrite}
 use Rattle.writes.specs.declared.OptionWrite.the-variants as next
-use Rattle.writes.specs.Next.{writeList}
+use Rattle.writes.specs.Next.{rowsOf, modeOf, writeList}
 use Rattle.rows.specs.Rows.{Named, Apart}
 use Rattle.committing.specs.Running.{Makes}
 
@@ -40,7 +40,7 @@ module _ (r r′ : List ℕ) (x : OptionWrite) where
   makes-log n e b = rw e b
 
   pub makes-packed : x ≡ next.WritePacked
-      → Became r′ (withEntries (view r) (applyPacked (packedEdits (view r) (modeIn (view r .prepared)) (rowsIn (view r .prepared))) (view r .entries)))
+      → Became r′ (withEntries (view r) (applyPacked (packedEdits (view r) (modeOf (view r)) (rowsOf (view r))) (view r .entries)))
       → Became r′ (applyAll (writeList (view r) x) (view r))
   unfolding writeList apply
   makes-packed e b = rw e b
@@ -70,7 +70,7 @@ module _ (s : Store) (x : OptionWrite) (m : Makes s x) where
   unfolding Makes
   pack-named e = subst (Makes s) e m .0
 
-  pub pack-apart : x ≡ next.WritePacked → Apart (rowsIn (s .prepared))
+  pub pack-apart : x ≡ next.WritePacked → Apart (rowsOf s)
   unfolding Makes
   pack-apart e = subst (Makes s) e m .1
 

@@ -18,7 +18,7 @@ use Rattle.transaction.specs.declared.Edit.{Edit}
 use Rattle.transaction.specs.Change.{newValue, previousValue, expectedTarget, idOf, matched, isLogOnly, isDelete}
 use Rattle.model.specs.Basic.{isEmpty, when}
 use Rattle.model.specs.Store.{Store, count, entryOf, isNone}
-use Rattle.model.specs.Rows.{nameIn, changeIn, rowAt, opens, isDirect, keepsLock}
+use Rattle.model.specs.Rows.{nameIn, changeIn, opens, isDirect, keepsLock}
 use Rattle.model.specs.Due.{Move, orLeaf, moveOf, hasLines, isLogged, lineBy, dueLine}
 use Rattle.model.specs.Writes.{Write, packedEdits, w2, w3, w4}
 use Rattle.model.specs.Writes.Write.{appendLine, writeLoose, removeLog, writePacked, removeLoose}
@@ -31,7 +31,7 @@ use Rattle.region.specs.Region.{view, Laid}
 use Rattle.region.proofs.Decode.{laid-image}
 use Rattle.writes.specs.declared.OptionWrite.{OptionWrite}
 use Rattle.writes.specs.declared.OptionWrite.the-variants as next
-use Rattle.writes.specs.Next.{rowsOf, modeOf, writeList, looseOf, firstAt, secondAt, places}
+use Rattle.writes.specs.Next.{rowsOf, modeOf, theRow, writeList, looseOf, firstAt, secondAt, places}
 use Rattle.rows.specs.Rows.{Named, Apart}
 use Rattle.committing.specs.Running.{Makes, isNoWrite}
 use Rattle.writes.proofs.Steps.{headOr, no-write, when-shape, loose-shape}
@@ -93,38 +93,38 @@ nothing-makes s next.WritePacked e = absurd (let z : _≡_ {A = ℕ} 0 1 = cc in
 nothing-makes s (next.RemoveLoose m) e = absurd (let z : _≡_ {A = ℕ} 0 1 = cc in omega arith)
 
 module _ (r : List ℕ) (l : Laid r) (named : Named (view r)) (a : Apart (rowsOf (view r))) where
-  fits : (i : ℕ) → i < length (rowsOf (view r)) → FitsRow (rowAt (rowsOf (view r)) i)
+  fits : (i : ℕ) → i < length (rowsOf (view r)) → FitsRow (theRow (view r) i)
   fits i h = laid-image r l .1 .row i h
 
   line-needs : (c i : ℕ) (w : Write) → c ≤ 65535 → i < length (rowsOf (view r)) → length (view r .lines) + linesIn (w ∷ []) ≤ 1024
-      → map appendLine (dueLine (by c) (view r) (rowAt (rowsOf (view r)) i)) ≡ w ∷ [] → Needs (view r) w
+      → map appendLine (dueLine (by c) (view r) (theRow (view r) i)) ≡ w ∷ [] → Needs (view r) w
   unfolding dueLine
   line-needs c i w hc h room e =
       go (isLogged (view r) x) (moveOf (changeIn x) (x .«leaf_referent_previous_oid»))
       (moves-fit (changeIn x) (x .«leaf_referent_previous_oid») (fits i h .was) (fits i h .new) (fits i h .leaf)) e
     where
       x : Edit
-      x = rowAt (rowsOf (view r)) i
+      x = theRow (view r) i
 
-      go : (b : Bool) (ms : List Move) → Fit ms → map appendLine (cond b (map (lineBy (by c) (rowAt (rowsOf (view r)) i)) ms) []) ≡ w ∷ [] → Needs (view r) w
+      go : (b : Bool) (ms : List Move) → Fit ms → map appendLine (cond b (map (lineBy (by c) (theRow (view r) i)) ms) []) ≡ w ∷ [] → Needs (view r) w
       go true [] f q = no-write w q
       go true (m ∷ ms) f q =
           subst (Needs (view r)) (ap (headOr w) q)
           (line-room w [] (view r) room (ap isLine (sym (ap (headOr w) q))), record { name = fits i h .name; previous = f .0; new = f .1; committer = omega arith; message = fits i h .message })
       go false ms f q = no-write w q
 
-  loose-needs : (i : ℕ) (w : Write) → i < length (rowsOf (view r)) → looseOf (view r) (modeOf (view r)) (rowAt (rowsOf (view r)) i) ≡ w ∷ [] → Needs (view r) w
+  loose-needs : (i : ℕ) (w : Write) → i < length (rowsOf (view r)) → looseOf (view r) (modeOf (view r)) (theRow (view r) i) ≡ w ∷ [] → Needs (view r) w
   unfolding looseOf
   loose-needs i w h e =
-      let sh = loose-shape (keepsLock (view r) (modeOf (view r)) (rowAt (rowsOf (view r)) i)) (isLogOnly (changeIn (rowAt (rowsOf (view r)) i))) (isDirect (view r) (modeOf (view r)) (rowAt (rowsOf (view r)) i))
-      (nameIn (rowAt (rowsOf (view r)) i)) (newValue (changeIn (rowAt (rowsOf (view r)) i))) w e in
+      let sh = loose-shape (keepsLock (view r) (modeOf (view r)) (theRow (view r) i)) (isLogOnly (changeIn (theRow (view r) i))) (isDirect (view r) (modeOf (view r)) (theRow (view r) i))
+      (nameIn (theRow (view r) i)) (newValue (changeIn (theRow (view r) i))) w e in
       subst (Needs (view r)) (sh .1) (named .named i h, subst FitsOption (sh .3) (fits i h .new))
 
-  log-needs : (i : ℕ) (w : Write) → w2 (view r) (rowAt (rowsOf (view r)) i) ≡ w ∷ [] → Needs (view r) w
+  log-needs : (i : ℕ) (w : Write) → w2 (view r) (theRow (view r) i) ≡ w ∷ [] → Needs (view r) w
   unfolding w2
   log-needs i w e =
       subst (Needs (view r))
-      (when-shape (isDelete (changeIn (rowAt (rowsOf (view r)) i)) && hasLines (view r) (nameIn (rowAt (rowsOf (view r)) i))) (removeLog (nameIn (rowAt (rowsOf (view r)) i))) w e) tt
+      (when-shape (isDelete (changeIn (theRow (view r) i)) && hasLines (view r) (nameIn (theRow (view r) i))) (removeLog (nameIn (theRow (view r) i))) w e) tt
 
   packed-needs : (w : Write) → w3 (view r) (modeOf (view r)) (rowsOf (view r)) ≡ w ∷ [] → Needs (view r) w
   unfolding w3
@@ -133,21 +133,21 @@ module _ (r : List ℕ) (l : Laid r) (named : Named (view r)) (a : Apart (rowsOf
       (when-shape (opens (view r) (modeOf (view r)) (rowsOf (view r)) && not (isEmpty (packedEdits (view r) (modeOf (view r)) (rowsOf (view r)))))
       (writePacked (packedEdits (view r) (modeOf (view r)) (rowsOf (view r)))) w e) (named, a)
 
-  gone-needs : (i : ℕ) (w : Write) → i < length (rowsOf (view r)) → w4 (view r) (modeOf (view r)) (rowAt (rowsOf (view r)) i) ≡ w ∷ [] → Needs (view r) w
+  gone-needs : (i : ℕ) (w : Write) → i < length (rowsOf (view r)) → w4 (view r) (modeOf (view r)) (theRow (view r) i) ≡ w ∷ [] → Needs (view r) w
   unfolding w4
   gone-needs i w h e =
       subst (Needs (view r))
       (when-shape
-      ((isDelete (changeIn (rowAt (rowsOf (view r)) i)) || isDirect (view r) (modeOf (view r)) (rowAt (rowsOf (view r)) i)) && not (isLogOnly (changeIn (rowAt (rowsOf (view r)) i))) && not (isNone (entryOf (view r) (nameIn (rowAt (rowsOf (view r)) i)) .loose)))
-      (removeLoose (nameIn (rowAt (rowsOf (view r)) i))) w e) (named .named i h)
+      ((isDelete (changeIn (theRow (view r) i)) || isDirect (view r) (modeOf (view r)) (theRow (view r) i)) && not (isLogOnly (changeIn (theRow (view r) i))) && not (isNone (entryOf (view r) (nameIn (theRow (view r) i)) .loose)))
+      (removeLoose (nameIn (theRow (view r) i))) w e) (named .named i h)
 
   first-needs : (c k : ℕ) (w : Write) → c ≤ 65535 → k < places (view r) → length (view r .lines) + linesIn (w ∷ []) ≤ 1024 → firstAt (by c) (view r) k ≡ w ∷ [] → Needs (view r) w
   unfolding firstAt
   first-needs c k w hc hk room e = go (ltb k (length (rowsOf (view r)))) refl e
     where
       last : (b d : Bool) → ltb (k - length (rowsOf (view r))) (length (rowsOf (view r))) ≡ b → eqb (k - length (rowsOf (view r))) (length (rowsOf (view r))) ≡ d → length (rowsOf (view r)) ≤ k
-          → cond b (w2 (view r) (rowAt (rowsOf (view r)) (k - length (rowsOf (view r)))))
-          (cond d (w3 (view r) (modeOf (view r)) (rowsOf (view r))) (w4 (view r) (modeOf (view r)) (rowAt (rowsOf (view r)) (k - length (rowsOf (view r)) - length (rowsOf (view r)) - 1)))) ≡ w ∷ []
+          → cond b (w2 (view r) (theRow (view r) (k - length (rowsOf (view r)))))
+          (cond d (w3 (view r) (modeOf (view r)) (rowsOf (view r))) (w4 (view r) (modeOf (view r)) (theRow (view r) (k - length (rowsOf (view r)) - length (rowsOf (view r)) - 1)))) ≡ w ∷ []
           → Needs (view r) w
       last true d p q h f = log-needs (k - length (rowsOf (view r))) w f
       last false true p q h f = packed-needs w f
@@ -157,9 +157,9 @@ module _ (r : List ℕ) (l : Laid r) (named : Named (view r)) (a : Apart (rowsOf
           gone-needs (k - length (rowsOf (view r)) - length (rowsOf (view r)) - 1) w (omega arith) f
 
       go : (b : Bool) → ltb k (length (rowsOf (view r))) ≡ b
-          → cond b (map appendLine (dueLine (by c) (view r) (rowAt (rowsOf (view r)) k)))
-          (cond (ltb (k - length (rowsOf (view r))) (length (rowsOf (view r)))) (w2 (view r) (rowAt (rowsOf (view r)) (k - length (rowsOf (view r)))))
-          (cond (eqb (k - length (rowsOf (view r))) (length (rowsOf (view r)))) (w3 (view r) (modeOf (view r)) (rowsOf (view r))) (w4 (view r) (modeOf (view r)) (rowAt (rowsOf (view r)) (k - length (rowsOf (view r)) - length (rowsOf (view r)) - 1))))) ≡ w ∷ []
+          → cond b (map appendLine (dueLine (by c) (view r) (theRow (view r) k)))
+          (cond (ltb (k - length (rowsOf (view r))) (length (rowsOf (view r)))) (w2 (view r) (theRow (view r) (k - length (rowsOf (view r)))))
+          (cond (eqb (k - length (rowsOf (view r))) (length (rowsOf (view r)))) (w3 (view r) (modeOf (view r)) (rowsOf (view r))) (w4 (view r) (modeOf (view r)) (theRow (view r) (k - length (rowsOf (view r)) - length (rowsOf (view r)) - 1))))) ≡ w ∷ []
           → Needs (view r) w
       go true p f = let h : k < length (rowsOf (view r)) = ltb-true k (length (rowsOf (view r))) p in line-needs c k w hc h room f
       go false p f = last (ltb (k - length (rowsOf (view r))) (length (rowsOf (view r)))) (eqb (k - length (rowsOf (view r))) (length (rowsOf (view r)))) refl refl (ltb-false k (length (rowsOf (view r))) p) f
@@ -168,7 +168,7 @@ module _ (r : List ℕ) (l : Laid r) (named : Named (view r)) (a : Apart (rowsOf
   unfolding secondAt
   second-needs k w e = go (ltb k (length (rowsOf (view r)))) refl e
     where
-      go : (b : Bool) → ltb k (length (rowsOf (view r))) ≡ b → cond b (looseOf (view r) (modeOf (view r)) (rowAt (rowsOf (view r)) k)) [] ≡ w ∷ [] → Needs (view r) w
+      go : (b : Bool) → ltb k (length (rowsOf (view r))) ≡ b → cond b (looseOf (view r) (modeOf (view r)) (theRow (view r) k)) [] ≡ w ∷ [] → Needs (view r) w
       go true p f = loose-needs k w (ltb-true k (length (rowsOf (view r))) p) f
       go false p f = no-write w f
 

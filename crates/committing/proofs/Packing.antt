@@ -17,7 +17,7 @@ use Rattle.transaction.specs.Change.{newValue, isDelete}
 use Rattle.model.specs.declared.Packed.{Packed}
 use Rattle.model.specs.declared.Packed.the-variants as packed
 use Rattle.model.specs.Basic.{collect, when}
-use Rattle.model.specs.Store.{Store, Entry, noEntry, noRow, count, entryAt, entryOf, rowsIn, modeIn, isPacked, putPacked, changeAt, changeEntry, withEntries}
+use Rattle.model.specs.Store.{Store, Entry, noEntry, noRow, count, entryAt, entryOf, isPacked, putPacked, changeAt, changeEntry, withEntries}
 use Rattle.model.specs.Rows.{nameIn, changeIn, rowAt, counts, packsUpdates}
 use Rattle.model.specs.Writes.{PackedEdit, apply, applyPacked, packedSet, packedEdit, packedEdits}
 use Rattle.model.specs.Writes.Write.{writePacked}
@@ -30,12 +30,12 @@ use Rattle.region.specs.Region.{view, Laid, Became}
 use Rattle.region.proofs.Decode.{laid-image}
 use Rattle.writes.specs.declared.OptionPackedEdit.{OptionPackedEdit}
 use Rattle.writes.specs.declared.OptionPackedEdit.the-variants.{NoPackedEdit, Sets}
-use Rattle.writes.specs.Next.{packedList}
+use Rattle.writes.specs.Next.{rowsOf, modeOf, theRow, packedList}
 use Rattle.rows.specs.Rows.{Named, Apart}
 
 -- ---- one row's part of the packed write
 
-pub row-named : (s : Store) (i : ℕ) (r : Edit) → Named s → i < length (rowsIn (s .prepared)) → r ≡ rowAt (rowsIn (s .prepared)) i → nameIn r .0 < count s
+pub row-named : (s : Store) (i : ℕ) (r : Edit) → Named s → i < length (rowsOf s) → r ≡ theRow s i → nameIn r .0 < count s
 row-named s i r n l er = rw er (n .named i l)
 
 -- the value that is set is none, or the object of a row that fits
@@ -61,9 +61,9 @@ edit-fits-by n v Absent true true b f e = none-fits n v b e
 edit-fits-by n v (Present (Object o)) true true b f e = subst FitsPacked (sym (ap firstValue e)) f
 edit-fits-by n v (Present (Symbolic m)) true true b f e = none-fits n v b e
 
-module _ (r : List ℕ) (mode : PackedRefs) (i : ℕ) (x : Edit) (o : OptionPackedEdit) (l : Laid r) (ex : x ≡ rowAt (rowsIn (view r .prepared)) i)
+module _ (r : List ℕ) (mode : PackedRefs) (i : ℕ) (x : Edit) (o : OptionPackedEdit) (l : Laid r) (ex : x ≡ theRow (view r) i)
     (eo : packedList (nameIn x) o ≡ packedEdit (view r) mode x) where
-  pub edit-fits : (v : Packed) → i < length (rowsIn (view r .prepared)) → o ≡ Sets v → FitsPacked v
+  pub edit-fits : (v : Packed) → i < length (rowsOf (view r)) → o ≡ Sets v → FitsPacked v
   unfolding packedEdit
   edit-fits v h e =
       let f : FitsRow x = subst FitsRow (sym ex) (laid-image r l .1 .row i h) in
@@ -71,15 +71,15 @@ module _ (r : List ℕ) (mode : PackedRefs) (i : ℕ) (x : Edit) (o : OptionPack
       edit-fits-by (nameIn x) v (newValue (changeIn x)) (counts (view r) x) (packsUpdates mode) (isDelete (changeIn x) && isPacked (entryOf (view r) (nameIn x) .packed)) (f .new) g
 
   pub pack-none : o ≡ NoPackedEdit
-      → Became r (withEntries (view r) (applyPacked (packedEdit (view r) mode (rowAt (rowsIn (view r .prepared)) i)) (view r .entries)))
+      → Became r (withEntries (view r) (applyPacked (packedEdit (view r) mode (theRow (view r) i)) (view r .entries)))
   pack-none e =
-      let g : packedEdit (view r) mode (rowAt (rowsIn (view r .prepared)) i) ≡ [] = ap (packedEdit (view r) mode) (sym ex) ∙ sym eo ∙ ap (packedList (nameIn x)) e in
+      let g : packedEdit (view r) mode (theRow (view r) i) ≡ [] = ap (packedEdit (view r) mode) (sym ex) ∙ sym eo ∙ ap (packedList (nameIn x)) e in
       record { laid = l; seen = ap (λ (ps : List PackedEdit). withEntries (view r) (applyPacked ps (view r .entries))) (sym g) }
 
   pub pack-set : (v : Packed) (r′ : List ℕ) → o ≡ Sets v → Became r′ (changeEntry (putPacked v) (nameIn x .0) (view r))
-      → Became r′ (withEntries (view r) (applyPacked (packedEdit (view r) mode (rowAt (rowsIn (view r .prepared)) i)) (view r .entries)))
+      → Became r′ (withEntries (view r) (applyPacked (packedEdit (view r) mode (theRow (view r) i)) (view r .entries)))
   pack-set v r′ e b =
-      let g : packedEdit (view r) mode (rowAt (rowsIn (view r .prepared)) i) ≡ one (nameIn x) v =
+      let g : packedEdit (view r) mode (theRow (view r) i) ≡ one (nameIn x) v =
       ap (packedEdit (view r) mode) (sym ex) ∙ sym eo ∙ ap (packedList (nameIn x)) e in
       record { laid = b .laid; seen = b .seen ∙ ap (λ (ps : List PackedEdit). withEntries (view r) (applyPacked ps (view r .entries))) (sym g) }
 
@@ -121,34 +121,34 @@ pub record Packing (r₀ : List ℕ) (mode : PackedRefs) (rows i : ℕ) (r : Lis
   pub many : count (view r) ≡ count (view r₀)
   pub seen : view r ≡ withEntries (view r₀) (view r .entries)
   pub left :
-      applyPacked (collect (packedEdit (view r) mode) (drop i (rowsIn (view r₀ .prepared)))) (view r .entries)
-      ≡ applyPacked (packedEdits (view r₀) mode (rowsIn (view r₀ .prepared))) (view r₀ .entries)
+      applyPacked (collect (packedEdit (view r) mode) (drop i (rowsOf (view r₀)))) (view r .entries)
+      ≡ applyPacked (packedEdits (view r₀) mode (rowsOf (view r₀))) (view r₀ .entries)
 
 pub packing-start : (r : List ℕ) (mode : PackedRefs) (rows : ℕ) → Laid r → Packing r mode rows 0 r
 packing-start r mode rows l = record { laid = l; same = refl; upto = omega arith; many = refl; seen = refl; left = refl }
 
-packing-rows : (r₀ : List ℕ) (mode : PackedRefs) (rows i : ℕ) (r : List ℕ) → Packing r₀ mode rows i r → rowsIn (view r .prepared) ≡ rowsIn (view r₀ .prepared)
-packing-rows r₀ mode rows i r p = ap (λ (s : Store). rowsIn (s .prepared)) (p .seen)
+packing-rows : (r₀ : List ℕ) (mode : PackedRefs) (rows i : ℕ) (r : List ℕ) → Packing r₀ mode rows i r → rowsOf (view r) ≡ rowsOf (view r₀)
+packing-rows r₀ mode rows i r p = ap (λ (s : Store). rowsOf s) (p .seen)
 
 pub packing-named : (r₀ : List ℕ) (mode : PackedRefs) (rows i : ℕ) (r : List ℕ) → Packing r₀ mode rows i r → Named (view r₀) → Named (view r)
 packing-named r₀ mode rows i r p n =
-    let e : rowsIn (view r .prepared) ≡ rowsIn (view r₀ .prepared) = packing-rows r₀ mode rows i r p in
+    let e : rowsOf (view r) ≡ rowsOf (view r₀) = packing-rows r₀ mode rows i r p in
     record {
-      named = λ j l. subst (λ (c : ℕ). nameIn (rowAt (rowsIn (view r .prepared)) j) .0 < c) (sym (p .many))
+      named = λ j l. subst (λ (c : ℕ). nameIn (theRow (view r) j) .0 < c) (sym (p .many))
           (subst (λ (xs : List Edit). nameIn (rowAt xs j) .0 < count (view r₀)) (sym e) (n .named j (subst (λ (xs : List Edit). j < length xs) e l)));
     }
 
-pub packing-place : (r₀ : List ℕ) (mode : PackedRefs) (rows i : ℕ) (r : List ℕ) → Packing r₀ mode rows i r → rows ≡ length (rowsIn (view r₀ .prepared)) → i < rows
-    → i < length (rowsIn (view r .prepared))
+pub packing-place : (r₀ : List ℕ) (mode : PackedRefs) (rows i : ℕ) (r : List ℕ) → Packing r₀ mode rows i r → rows ≡ length (rowsOf (view r₀)) → i < rows
+    → i < length (rowsOf (view r))
 packing-place r₀ mode rows i r p e l =
-    let f : length (rowsIn (view r .prepared)) ≡ length (rowsIn (view r₀ .prepared)) = ap length (packing-rows r₀ mode rows i r p) in omega arith
+    let f : length (rowsOf (view r)) ≡ length (rowsOf (view r₀)) = ap length (packing-rows r₀ mode rows i r p) in omega arith
 
-pub packing-more : (r₀ : List ℕ) (mode : PackedRefs) (rows i : ℕ) (r r′ : List ℕ) → Packing r₀ mode rows i r → Named (view r₀) → Apart (rowsIn (view r₀ .prepared))
-    → rows ≡ length (rowsIn (view r₀ .prepared)) → i < rows → length r′ ≡ length r
-    → Became r′ (withEntries (view r) (applyPacked (packedEdit (view r) mode (rowAt (rowsIn (view r .prepared)) i)) (view r .entries)))
+pub packing-more : (r₀ : List ℕ) (mode : PackedRefs) (rows i : ℕ) (r r′ : List ℕ) → Packing r₀ mode rows i r → Named (view r₀) → Apart (rowsOf (view r₀))
+    → rows ≡ length (rowsOf (view r₀)) → i < rows → length r′ ≡ length r
+    → Became r′ (withEntries (view r) (applyPacked (packedEdit (view r) mode (theRow (view r) i)) (view r .entries)))
     → Packing r₀ mode rows (i + 1) r′
 packing-more r₀ mode rows i r r′ p n a er h el b =
-    let rs : List Edit = rowsIn (view r₀ .prepared) in
+    let rs : List Edit = rowsOf (view r₀) in
     let t : Store = view r in
     let x : Edit = rowAt rs i in
     let es : List Entry = applyPacked (packedEdit t mode x) (t .entries) in
@@ -173,29 +173,29 @@ packing-more r₀ mode rows i r r′ p n a er h el b =
           ∙ p .left;
     }
   where
-    later : (j : ℕ) → j < length (drop (suc i) (rowsIn (view r₀ .prepared)))
-        → packedEdit (withEntries (view r) (applyPacked (packedEdit (view r) mode (rowAt (rowsIn (view r₀ .prepared)) i)) (view r .entries))) mode (getD (drop (suc i) (rowsIn (view r₀ .prepared))) j noRow)
-        ≡ packedEdit (view r) mode (getD (drop (suc i) (rowsIn (view r₀ .prepared))) j noRow)
+    later : (j : ℕ) → j < length (drop (suc i) (rowsOf (view r₀)))
+        → packedEdit (withEntries (view r) (applyPacked (packedEdit (view r) mode (theRow (view r₀) i)) (view r .entries))) mode (getD (drop (suc i) (rowsOf (view r₀))) j noRow)
+        ≡ packedEdit (view r) mode (getD (drop (suc i) (rowsOf (view r₀))) j noRow)
     later j l =
-        let m : suc i + j < length (rowsIn (view r₀ .prepared)) = let d : length (drop (suc i) (rowsIn (view r₀ .prepared))) ≡ length (rowsIn (view r₀ .prepared)) - suc i = length-drop (suc i) (rowsIn (view r₀ .prepared)) in omega arith in
-        let y : Edit = rowAt (rowsIn (view r₀ .prepared)) (suc i + j) in
+        let m : suc i + j < length (rowsOf (view r₀)) = let d : length (drop (suc i) (rowsOf (view r₀))) ≡ length (rowsOf (view r₀)) - suc i = length-drop (suc i) (rowsOf (view r₀)) in omega arith in
+        let y : Edit = theRow (view r₀) (suc i + j) in
         let k : nameIn y .0 < count (view r₀) = n .named (suc i + j) m in
-        subst (λ (z : Edit). packedEdit (withEntries (view r) (applyPacked (packedEdit (view r) mode (rowAt (rowsIn (view r₀ .prepared)) i)) (view r .entries))) mode z ≡ packedEdit (view r) mode z)
-        (sym (getD-drop (suc i) (rowsIn (view r₀ .prepared)) j noRow))
-        (other-edit (view r) mode (rowAt (rowsIn (view r₀ .prepared)) i) y (a .apart i (suc i + j) (omega arith) m (λ q. absurd (omega arith)))
+        subst (λ (z : Edit). packedEdit (withEntries (view r) (applyPacked (packedEdit (view r) mode (theRow (view r₀) i)) (view r .entries))) mode z ≡ packedEdit (view r) mode z)
+        (sym (getD-drop (suc i) (rowsOf (view r₀)) j noRow))
+        (other-edit (view r) mode (theRow (view r₀) i) y (a .apart i (suc i + j) (omega arith) m (λ q. absurd (omega arith)))
         (subst (λ (c : ℕ). nameIn y .0 < c) (sym (p .many)) k))
 
-pub packing-end : (r₀ : List ℕ) (mode : PackedRefs) (rows i : ℕ) (r : List ℕ) → Packing r₀ mode rows i r → rows ≡ length (rowsIn (view r₀ .prepared)) → rows ≤ i
-    → mode ≡ modeIn (view r₀ .prepared)
-    → Became r (withEntries (view r₀) (applyPacked (packedEdits (view r₀) (modeIn (view r₀ .prepared)) (rowsIn (view r₀ .prepared))) (view r₀ .entries)))
+pub packing-end : (r₀ : List ℕ) (mode : PackedRefs) (rows i : ℕ) (r : List ℕ) → Packing r₀ mode rows i r → rows ≡ length (rowsOf (view r₀)) → rows ≤ i
+    → mode ≡ modeOf (view r₀)
+    → Became r (withEntries (view r₀) (applyPacked (packedEdits (view r₀) (modeOf (view r₀)) (rowsOf (view r₀))) (view r₀ .entries)))
 packing-end r₀ mode rows i r p e l em =
-    let b : length (rowsIn (view r₀ .prepared)) ≤ i = omega arith in
+    let b : length (rowsOf (view r₀)) ≤ i = omega arith in
     record {
       laid = p .laid;
       seen =
           p .seen
           ∙ ap (withEntries (view r₀))
-          (ap (λ (xs : List Edit). applyPacked (collect (packedEdit (view r) mode) xs) (view r .entries)) (sym (drop-of-length-le (rowsIn (view r₀ .prepared)) b))
+          (ap (λ (xs : List Edit). applyPacked (collect (packedEdit (view r) mode) xs) (view r .entries)) (sym (drop-of-length-le (rowsOf (view r₀)) b))
           ∙ p .left
-          ∙ ap (λ (m : PackedRefs). applyPacked (packedEdits (view r₀) m (rowsIn (view r₀ .prepared))) (view r₀ .entries)) em);
+          ∙ ap (λ (m : PackedRefs). applyPacked (packedEdits (view r₀) m (rowsOf (view r₀))) (view r₀ .entries)) em);
     }

@@ -17,7 +17,7 @@ use Rattle.model.proofs.KeptCommit.{apply-count}
 use Rattle.region.specs.Region.{view}
 use Rattle.rows.specs.Rows.{Named, Apart}
 use Rattle.writes.specs.declared.OptionWrite.{OptionWrite}
-use Rattle.writes.specs.Next.{rowsOf, writeList, firstAt, secondAt}
+use Rattle.writes.specs.Next.{rowsOf, theRow, writeList, firstAt, secondAt}
 use Rattle.committing.specs.declared.Ran.{Ran}
 use Rattle.committing.specs.Running.{Turned, Placed}
 
@@ -33,7 +33,7 @@ apply-prepared (removeLoose n) s = refl
 -- rows that are the same, among as many names
 pub named-as : (s t : Store) → t .prepared ≡ s .prepared → count t ≡ count s → Named s → Named t
 named-as s t e n named = record {
-  named = λ i h. subst (λ (m : ℕ). nameIn (rowAt (rowsOf t) i) .0 < m) (sym n)
+  named = λ i h. subst (λ (m : ℕ). nameIn (theRow t i) .0 < m) (sym n)
       (subst (λ (p : Option Prepared). i < length (rowsIn p) → nameIn (rowAt (rowsIn p) i) .0 < count s) (sym e) (named .named i) h);
 }
 

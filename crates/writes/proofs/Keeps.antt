@@ -13,96 +13,96 @@ use Rattle.model.specs.declared.Loose.{Loose}
 use Rattle.model.specs.declared.Line.{Line}
 use Rattle.model.specs.Basic.{select}
 use Rattle.model.specs.Store.{Store, isOf, putLoose, changeEntry, withEntries, withLines}
-use Rattle.model.specs.Rows.{nameIn, changeIn, rowAt, isDirect}
+use Rattle.model.specs.Rows.{nameIn, changeIn, isDirect}
 use Rattle.model.specs.Due.{Stamp}
 use Rattle.model.specs.Writes.{PackedEdit, applyPacked, w2, w4}
-use Rattle.writes.specs.Next.{rowsOf, modeOf}
+use Rattle.writes.specs.Next.{rowsOf, modeOf, theRow}
 use Rattle.writes.proofs.Stable.{Same, lines-loose, lines-w3, lines-w4, lines-due, lines-w2, update-w2, line-other, log-other, loose-due, loose-loose, loose-w2, loose-w3, loose-w4, still-w4, packed-w4}
 use Rattle.rows.specs.Rows.{Apart}
 
 module _ (stamp : Stamp) (s : Store) (a : Apart (rowsOf s)) (k : ℕ) where
   -- W1, the line of row k
-  pub keeps-line : (l : Line) → k < length (rowsOf s) → l .name ≡ nameIn (rowAt (rowsOf s) k) → isDelete (changeIn (rowAt (rowsOf s) k)) ≡ false
+  pub keeps-line : (l : Line) → k < length (rowsOf s) → l .name ≡ nameIn (theRow s k) → isDelete (changeIn (theRow s k)) ≡ false
       → Same stamp s (withLines s (s .lines ++ (l ∷ []))) (suc k)
   keeps-line l h en d =
       record {
         rest = refl;
-        due = λ i m g. lines-due s _ (rowAt (rowsOf s) i) (line-other s (nameIn (rowAt (rowsOf s) k)) (nameIn (rowAt (rowsOf s) i)) (a .apart k i h g (λ e. absurd (omega arith))) l (ap (λ (n : NameNumber). n .0) en)) stamp;
-        loose = λ i m g. lines-loose s _ (modeOf s) (rowAt (rowsOf s) i);
+        due = λ i m g. lines-due s _ (theRow s i) (line-other s (nameIn (theRow s k)) (nameIn (theRow s i)) (a .apart k i h g (λ e. absurd (omega arith))) l (ap (λ (n : NameNumber). n .0) en)) stamp;
+        loose = λ i m g. lines-loose s _ (modeOf s) (theRow s i);
         two = two;
         three = λ m. lines-w3 s _ (modeOf s) (rowsOf s);
-        four = λ i m g. lines-w4 s _ (modeOf s) (rowAt (rowsOf s) i);
+        four = λ i m g. lines-w4 s _ (modeOf s) (theRow s i);
       }
     where
-      two : (i : ℕ) → suc k ≤ length (rowsOf s) + i → i < length (rowsOf s) → w2 (withLines s (s .lines ++ (l ∷ []))) (rowAt (rowsOf s) i) ≡ w2 s (rowAt (rowsOf s) i)
+      two : (i : ℕ) → suc k ≤ length (rowsOf s) + i → i < length (rowsOf s) → w2 (withLines s (s .lines ++ (l ∷ []))) (theRow s i) ≡ w2 s (theRow s i)
       two i m g = go (eqb i k) refl
         where
-          go : (b : Bool) → eqb i k ≡ b → w2 (withLines s (s .lines ++ (l ∷ []))) (rowAt (rowsOf s) i) ≡ w2 s (rowAt (rowsOf s) i)
+          go : (b : Bool) → eqb i k ≡ b → w2 (withLines s (s .lines ++ (l ∷ []))) (theRow s i) ≡ w2 s (theRow s i)
           go true e =
-              let q : isDelete (changeIn (rowAt (rowsOf s) i)) ≡ false = ap (λ (j : ℕ). isDelete (changeIn (rowAt (rowsOf s) j))) (eqb-true i k e) ∙ d in
-              update-w2 _ (rowAt (rowsOf s) i) q ∙ sym (update-w2 s (rowAt (rowsOf s) i) q)
+              let q : isDelete (changeIn (theRow s i)) ≡ false = ap (λ (j : ℕ). isDelete (changeIn (theRow s j))) (eqb-true i k e) ∙ d in
+              update-w2 _ (theRow s i) q ∙ sym (update-w2 s (theRow s i) q)
           go false e =
-              lines-w2 s _ (rowAt (rowsOf s) i)
-              (line-other s (nameIn (rowAt (rowsOf s) k)) (nameIn (rowAt (rowsOf s) i)) (a .apart k i h g (λ q. eqb-false i k e (sym q))) l (ap (λ (n : NameNumber). n .0) en))
+              lines-w2 s _ (theRow s i)
+              (line-other s (nameIn (theRow s k)) (nameIn (theRow s i)) (a .apart k i h g (λ q. eqb-false i k e (sym q))) l (ap (λ (n : NameNumber). n .0) en))
 
   -- W1, the loose value of row k, which is neither a deletion nor direct
-  pub keeps-loose : (v : Loose) → k < length (rowsOf s) → isDelete (changeIn (rowAt (rowsOf s) k)) ≡ false → isDirect s (modeOf s) (rowAt (rowsOf s) k) ≡ false
-      → Same stamp s (changeEntry (putLoose v) (nameIn (rowAt (rowsOf s) k) .0) s) (suc k)
+  pub keeps-loose : (v : Loose) → k < length (rowsOf s) → isDelete (changeIn (theRow s k)) ≡ false → isDirect s (modeOf s) (theRow s k) ≡ false
+      → Same stamp s (changeEntry (putLoose v) (nameIn (theRow s k) .0) s) (suc k)
   keeps-loose v h d p =
       record {
         rest = refl;
-        due = λ i m g. loose-due s _ v stamp (rowAt (rowsOf s) i);
-        loose = λ i m g. loose-loose s _ v (modeOf s) (rowAt (rowsOf s) i);
-        two = λ i m g. loose-w2 s _ v (rowAt (rowsOf s) i);
+        due = λ i m g. loose-due s _ v stamp (theRow s i);
+        loose = λ i m g. loose-loose s _ v (modeOf s) (theRow s i);
+        two = λ i m g. loose-w2 s _ v (theRow s i);
         three = λ m. loose-w3 s _ v (modeOf s) (rowsOf s);
         four = four;
       }
     where
       four : (i : ℕ) → suc k ≤ length (rowsOf s) + length (rowsOf s) + 1 + i → i < length (rowsOf s)
-          → w4 (changeEntry (putLoose v) (nameIn (rowAt (rowsOf s) k) .0) s) (modeOf s) (rowAt (rowsOf s) i) ≡ w4 s (modeOf s) (rowAt (rowsOf s) i)
+          → w4 (changeEntry (putLoose v) (nameIn (theRow s k) .0) s) (modeOf s) (theRow s i) ≡ w4 s (modeOf s) (theRow s i)
       four i m g = go (eqb i k) refl
         where
-          go : (b : Bool) → eqb i k ≡ b → w4 (changeEntry (putLoose v) (nameIn (rowAt (rowsOf s) k) .0) s) (modeOf s) (rowAt (rowsOf s) i) ≡ w4 s (modeOf s) (rowAt (rowsOf s) i)
+          go : (b : Bool) → eqb i k ≡ b → w4 (changeEntry (putLoose v) (nameIn (theRow s k) .0) s) (modeOf s) (theRow s i) ≡ w4 s (modeOf s) (theRow s i)
           go true e =
-              still-w4 s _ v (modeOf s) (rowAt (rowsOf s) i)
-              (ap (λ (j : ℕ). isDelete (changeIn (rowAt (rowsOf s) j))) (eqb-true i k e) ∙ d)
-              (ap (λ (j : ℕ). isDirect s (modeOf s) (rowAt (rowsOf s) j)) (eqb-true i k e) ∙ p)
-          go false e = loose-w4 s _ v (modeOf s) (rowAt (rowsOf s) i) (a .apart k i h g (λ q. eqb-false i k e (sym q)))
+              still-w4 s _ v (modeOf s) (theRow s i)
+              (ap (λ (j : ℕ). isDelete (changeIn (theRow s j))) (eqb-true i k e) ∙ d)
+              (ap (λ (j : ℕ). isDirect s (modeOf s) (theRow s j)) (eqb-true i k e) ∙ p)
+          go false e = loose-w4 s _ v (modeOf s) (theRow s i) (a .apart k i h g (λ q. eqb-false i k e (sym q)))
 
   -- W2, the log of row j removed, at its place
   pub keeps-log : (j : ℕ) → j < length (rowsOf s) → k ≡ length (rowsOf s) + j
-      → Same stamp s (withLines s (select (λ l. not (isOf (nameIn (rowAt (rowsOf s) j)) l)) (s .lines))) (suc k)
+      → Same stamp s (withLines s (select (λ l. not (isOf (nameIn (theRow s j)) l)) (s .lines))) (suc k)
   keeps-log j h e =
       record {
         rest = refl;
         due = λ i m g. absurd (omega arith);
         loose = λ i m g. absurd (omega arith);
-        two = λ i m g. lines-w2 s _ (rowAt (rowsOf s) i) (log-other s (nameIn (rowAt (rowsOf s) j)) (nameIn (rowAt (rowsOf s) i)) (a .apart j i h g (λ q. absurd (omega arith))));
+        two = λ i m g. lines-w2 s _ (theRow s i) (log-other s (nameIn (theRow s j)) (nameIn (theRow s i)) (a .apart j i h g (λ q. absurd (omega arith))));
         three = λ m. lines-w3 s _ (modeOf s) (rowsOf s);
-        four = λ i m g. lines-w4 s _ (modeOf s) (rowAt (rowsOf s) i);
+        four = λ i m g. lines-w4 s _ (modeOf s) (theRow s i);
+      }
+
+  -- past W2 only W4 is left
+  late : (t : Store) → t .prepared ≡ s .prepared → length (rowsOf s) + length (rowsOf s) ≤ k
+      → ((i : ℕ) → suc k ≤ length (rowsOf s) + length (rowsOf s) + 1 + i → i < length (rowsOf s) → w4 t (modeOf s) (theRow s i) ≡ w4 s (modeOf s) (theRow s i))
+      → Same stamp s t (suc k)
+  late t e l four =
+      record {
+        rest = e;
+        due = λ i m g. absurd (omega arith);
+        loose = λ i m g. absurd (omega arith);
+        two = λ i m g. absurd (omega arith);
+        three = λ m. absurd (omega arith);
+        four = four;
       }
 
   -- W3
   pub keeps-packed : (ps : List PackedEdit) → k ≡ length (rowsOf s) + length (rowsOf s) → Same stamp s (withEntries s (applyPacked ps (s .entries))) (suc k)
-  keeps-packed ps e =
-      record {
-        rest = refl;
-        due = λ i m g. absurd (omega arith);
-        loose = λ i m g. absurd (omega arith);
-        two = λ i m g. absurd (omega arith);
-        three = λ m. absurd (omega arith);
-        four = λ i m g. packed-w4 s ps (modeOf s) (rowAt (rowsOf s) i);
-      }
+  keeps-packed ps e = late (withEntries s (applyPacked ps (s .entries))) refl (omega arith) (λ i m g. packed-w4 s ps (modeOf s) (theRow s i))
 
   -- W4, the loose value of row j removed, at its place
   pub keeps-gone : (v : Loose) (j : ℕ) → j < length (rowsOf s) → k ≡ length (rowsOf s) + length (rowsOf s) + 1 + j
-      → Same stamp s (changeEntry (putLoose v) (nameIn (rowAt (rowsOf s) j) .0) s) (suc k)
+      → Same stamp s (changeEntry (putLoose v) (nameIn (theRow s j) .0) s) (suc k)
   keeps-gone v j h e =
-      record {
-        rest = refl;
-        due = λ i m g. absurd (omega arith);
-        loose = λ i m g. absurd (omega arith);
-        two = λ i m g. absurd (omega arith);
-        three = λ m. absurd (omega arith);
-        four = λ i m g. loose-w4 s _ v (modeOf s) (rowAt (rowsOf s) i) (a .apart j i h g (λ q. absurd (omega arith)));
-      }
+      late (changeEntry (putLoose v) (nameIn (theRow s j) .0) s) refl (omega arith)
+      (λ i m g. loose-w4 s _ v (modeOf s) (theRow s i) (a .apart j i h g (λ q. absurd (omega arith))))

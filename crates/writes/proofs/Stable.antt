@@ -16,13 +16,13 @@ use Rattle.model.specs.declared.Loose.{Loose}
 use Rattle.model.specs.declared.Line.{Line}
 use Rattle.model.specs.Basic.{any, select, collect, isEmpty, when}
 use Rattle.model.specs.Store.{Store, Prepared, rowsIn, modeIn, Entry, noEntry, entryOf, nameOf, isOf, isPacked, linesOf, putLoose, putPacked, changeAt, changeEntry, withEntries, withLines}
-use Rattle.model.specs.Rows.{nameIn, changeIn, rowAt, counts, countsAsUpdate, opens, isDirect, keepsLock}
+use Rattle.model.specs.Rows.{nameIn, changeIn, counts, countsAsUpdate, opens, isDirect, keepsLock}
 use Rattle.model.specs.Due.{Stamp, hasLines, isLogged, dueLine}
 use Rattle.model.specs.Writes.{Write, PackedEdit, apply, applyPacked, packedEdit, w2, w3, w4}
 use Rattle.model.specs.Writes.Write.{appendLine, removeLog, writePacked}
 use Rattle.model.proofs.Base.{changed-keeps, changed-other}
 use Rattle.model.proofs.Touch.{log-after}
-use Rattle.writes.specs.Next.{rowsOf, modeOf, looseOf, firstBy, secondBy, firstAt, secondAt, places, ahead}
+use Rattle.writes.specs.Next.{rowsOf, modeOf, theRow, looseOf, firstBy, secondBy, firstAt, secondAt, places, ahead}
 
 -- ---- lists
 
@@ -172,12 +172,12 @@ packed-w4 s ps mode r = rw (packs-name ps (nameIn r .0) (s .entries), packs-loos
 
 pub record Same (stamp : Stamp) (s t : Store) (k : ℕ) : Type 0 where
   pub rest : t .prepared ≡ s .prepared
-  pub due : (i : ℕ) → k ≤ i → i < length (rowsOf s) → dueLine stamp t (rowAt (rowsOf s) i) ≡ dueLine stamp s (rowAt (rowsOf s) i)
-  pub loose : (i : ℕ) → k ≤ i → i < length (rowsOf s) → looseOf t (modeOf s) (rowAt (rowsOf s) i) ≡ looseOf s (modeOf s) (rowAt (rowsOf s) i)
-  pub two : (i : ℕ) → k ≤ length (rowsOf s) + i → i < length (rowsOf s) → w2 t (rowAt (rowsOf s) i) ≡ w2 s (rowAt (rowsOf s) i)
+  pub due : (i : ℕ) → k ≤ i → i < length (rowsOf s) → dueLine stamp t (theRow s i) ≡ dueLine stamp s (theRow s i)
+  pub loose : (i : ℕ) → k ≤ i → i < length (rowsOf s) → looseOf t (modeOf s) (theRow s i) ≡ looseOf s (modeOf s) (theRow s i)
+  pub two : (i : ℕ) → k ≤ length (rowsOf s) + i → i < length (rowsOf s) → w2 t (theRow s i) ≡ w2 s (theRow s i)
   pub three : k ≤ length (rowsOf s) + length (rowsOf s) → w3 t (modeOf s) (rowsOf s) ≡ w3 s (modeOf s) (rowsOf s)
   pub four : (i : ℕ) → k ≤ length (rowsOf s) + length (rowsOf s) + 1 + i → i < length (rowsOf s)
-      → w4 t (modeOf s) (rowAt (rowsOf s) i) ≡ w4 s (modeOf s) (rowAt (rowsOf s) i)
+      → w4 t (modeOf s) (theRow s i) ≡ w4 s (modeOf s) (theRow s i)
 
 module _ (stamp : Stamp) (s t : Store) (k : ℕ) (same : Same stamp s t k) where
   first-same : (j : ℕ) → k ≤ j → j < places s → firstAt stamp t j ≡ firstAt stamp s j
@@ -186,8 +186,8 @@ module _ (stamp : Stamp) (s t : Store) (k : ℕ) (same : Same stamp s t k) where
     where
       rest : Store → Bool → Bool → List Write
       rest x b c =
-          cond b (w2 x (rowAt (rowsOf s) (j - length (rowsOf s))))
-          (cond c (w3 x (modeOf s) (rowsOf s)) (w4 x (modeOf s) (rowAt (rowsOf s) (j - length (rowsOf s) - length (rowsOf s) - 1))))
+          cond b (w2 x (theRow s (j - length (rowsOf s))))
+          (cond c (w3 x (modeOf s) (rowsOf s)) (w4 x (modeOf s) (theRow s (j - length (rowsOf s) - length (rowsOf s) - 1))))
 
       last : (b c : Bool) → ltb (j - length (rowsOf s)) (length (rowsOf s)) ≡ b → eqb (j - length (rowsOf s)) (length (rowsOf s)) ≡ c → length (rowsOf s) ≤ j
           → rest t b c ≡ rest s b c
@@ -199,9 +199,9 @@ module _ (stamp : Stamp) (s t : Store) (k : ℕ) (same : Same stamp s t k) where
           same .four (j - length (rowsOf s) - length (rowsOf s) - 1) (omega arith) (omega arith)
 
       go : (b : Bool) → ltb j (length (rowsOf s)) ≡ b
-          → cond b (map appendLine (dueLine stamp t (rowAt (rowsOf s) j)))
+          → cond b (map appendLine (dueLine stamp t (theRow s j)))
           (rest t (ltb (j - length (rowsOf s)) (length (rowsOf s))) (eqb (j - length (rowsOf s)) (length (rowsOf s))))
-          ≡ cond b (map appendLine (dueLine stamp s (rowAt (rowsOf s) j)))
+          ≡ cond b (map appendLine (dueLine stamp s (theRow s j)))
           (rest s (ltb (j - length (rowsOf s)) (length (rowsOf s))) (eqb (j - length (rowsOf s)) (length (rowsOf s))))
       go true e = ap (map appendLine) (same .due j h (ltb-true j (length (rowsOf s)) e))
       go false e = last (ltb (j - length (rowsOf s)) (length (rowsOf s))) (eqb (j - length (rowsOf s)) (length (rowsOf s))) refl refl (ltb-false j (length (rowsOf s)) e)
@@ -211,7 +211,7 @@ module _ (stamp : Stamp) (s t : Store) (k : ℕ) (same : Same stamp s t k) where
   second-same j h = ap (λ (p : Option Prepared). secondBy t (modeIn p) (rowsIn p) j) (same .rest) ∙ go (ltb j (length (rowsOf s))) refl
     where
       go : (b : Bool) → ltb j (length (rowsOf s)) ≡ b
-          → cond b (looseOf t (modeOf s) (rowAt (rowsOf s) j)) [] ≡ cond b (looseOf s (modeOf s) (rowAt (rowsOf s) j)) []
+          → cond b (looseOf t (modeOf s) (theRow s j)) [] ≡ cond b (looseOf s (modeOf s) (theRow s j)) []
       go true e = same .loose j h (ltb-true j (length (rowsOf s)) e)
       go false e = refl
 

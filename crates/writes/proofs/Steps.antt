@@ -20,11 +20,11 @@ use Rattle.model.specs.Basic.{isEmpty, when}
 use Rattle.model.specs.declared.Loose.the-variants as loose
 use Rattle.model.specs.declared.Line.{Line}
 use Rattle.model.specs.Store.{Store, entryOf, isNone, putLoose, changeEntry, withEntries, withLines}
-use Rattle.model.specs.Rows.{nameIn, changeIn, rowAt, opens, isDirect, keepsLock}
+use Rattle.model.specs.Rows.{nameIn, changeIn, opens, isDirect, keepsLock}
 use Rattle.model.specs.Due.{Stamp, Move, moveOf, hasLines, isLogged, lineBy, dueLine}
 use Rattle.model.specs.Writes.{Write, PackedEdit, apply, applyPacked, looseWrite, packedEdits, w2, w3, w4}
 use Rattle.model.specs.Writes.Write.{appendLine, writeLoose, removeLog, writePacked, removeLoose}
-use Rattle.writes.specs.Next.{rowsOf, modeOf, looseOf, firstAt, secondAt, places, ahead}
+use Rattle.writes.specs.Next.{rowsOf, modeOf, theRow, looseOf, firstAt, secondAt, places, ahead}
 use Rattle.writes.proofs.Stable.{ahead-same}
 use Rattle.rows.specs.Rows.{Apart}
 use Rattle.writes.proofs.Keeps.{keeps-line, keeps-loose, keeps-log, keeps-packed, keeps-gone}
@@ -78,23 +78,23 @@ module _ (stamp : Stamp) (s : Store) (a : Apart (rowsOf s)) (k m : ℕ) (room : 
   unfolding secondAt looseOf keepsLock isDirect
   second-lines ls = refl
 
-  made-line : (v : Move) → k < length (rowsOf s) → isDelete (changeIn (rowAt (rowsOf s) k)) ≡ false → Stays (appendLine (lineBy stamp (rowAt (rowsOf s) k) v))
+  made-line : (v : Move) → k < length (rowsOf s) → isDelete (changeIn (theRow s k)) ≡ false → Stays (appendLine (lineBy stamp (theRow s k) v))
   unfolding apply
-  made-line v h d = (second-lines _, ahead-same stamp s _ (suc k) (keeps-line stamp s a k (lineBy stamp (rowAt (rowsOf s) k) v) h refl d) m (suc k) (omega arith) room)
+  made-line v h d = (second-lines _, ahead-same stamp s _ (suc k) (keeps-line stamp s a k (lineBy stamp (theRow s k) v) h refl d) m (suc k) (omega arith) room)
 
-  stays-line : (w : Write) → k < length (rowsOf s) → map appendLine (dueLine stamp s (rowAt (rowsOf s) k)) ≡ w ∷ [] → Stays w
+  stays-line : (w : Write) → k < length (rowsOf s) → map appendLine (dueLine stamp s (theRow s k)) ≡ w ∷ [] → Stays w
   unfolding dueLine
   stays-line w h e =
-      let sh = line-shape (isLogged s (rowAt (rowsOf s) k)) (moveOf (changeIn (rowAt (rowsOf s) k)) (rowAt (rowsOf s) k .«leaf_referent_previous_oid»)) stamp (rowAt (rowsOf s) k) w e in
-      subst Stays (sh .1) (made-line (sh .0) h (moving-updates (changeIn (rowAt (rowsOf s) k)) _ (sh .2)))
+      let sh = line-shape (isLogged s (theRow s k)) (moveOf (changeIn (theRow s k)) (theRow s k .«leaf_referent_previous_oid»)) stamp (theRow s k) w e in
+      subst Stays (sh .1) (made-line (sh .0) h (moving-updates (changeIn (theRow s k)) _ (sh .2)))
 
-  made-log : (j : ℕ) → j < length (rowsOf s) → k ≡ length (rowsOf s) + j → Stays (removeLog (nameIn (rowAt (rowsOf s) j)))
+  made-log : (j : ℕ) → j < length (rowsOf s) → k ≡ length (rowsOf s) + j → Stays (removeLog (nameIn (theRow s j)))
   unfolding apply
   made-log j h e = (second-lines _, ahead-same stamp s _ (suc k) (keeps-log stamp s a k j h e) m (suc k) (omega arith) room)
 
-  stays-log : (w : Write) (j : ℕ) → j < length (rowsOf s) → k ≡ length (rowsOf s) + j → w2 s (rowAt (rowsOf s) j) ≡ w ∷ [] → Stays w
+  stays-log : (w : Write) (j : ℕ) → j < length (rowsOf s) → k ≡ length (rowsOf s) + j → w2 s (theRow s j) ≡ w ∷ [] → Stays w
   unfolding w2
-  stays-log w j h q e = subst Stays (when-shape (isDelete (changeIn (rowAt (rowsOf s) j)) && hasLines s (nameIn (rowAt (rowsOf s) j))) (removeLog (nameIn (rowAt (rowsOf s) j))) w e) (made-log j h q)
+  stays-log w j h q e = subst Stays (when-shape (isDelete (changeIn (theRow s j)) && hasLines s (nameIn (theRow s j))) (removeLog (nameIn (theRow s j))) w e) (made-log j h q)
 
   made-packed : (ps : List PackedEdit) → k ≡ length (rowsOf s) + length (rowsOf s) → Stays (writePacked ps)
   unfolding apply
@@ -107,16 +107,16 @@ module _ (stamp : Stamp) (s : Store) (a : Apart (rowsOf s)) (k m : ℕ) (room : 
   unfolding w3
   stays-packed w q e = subst Stays (when-shape (opens s (modeOf s) (rowsOf s) && not (isEmpty (packedEdits s (modeOf s) (rowsOf s)))) (writePacked (packedEdits s (modeOf s) (rowsOf s))) w e) (made-packed (packedEdits s (modeOf s) (rowsOf s)) q)
 
-  made-gone : (j : ℕ) → j < length (rowsOf s) → k ≡ length (rowsOf s) + length (rowsOf s) + 1 + j → Stays (removeLoose (nameIn (rowAt (rowsOf s) j)))
+  made-gone : (j : ℕ) → j < length (rowsOf s) → k ≡ length (rowsOf s) + length (rowsOf s) + 1 + j → Stays (removeLoose (nameIn (theRow s j)))
   unfolding apply
   made-gone j h e = (
-    second-none (changeEntry (putLoose loose.None) (nameIn (rowAt (rowsOf s) j) .0) s) k (omega arith) ∙ sym (second-none s k (omega arith)),
+    second-none (changeEntry (putLoose loose.None) (nameIn (theRow s j) .0) s) k (omega arith) ∙ sym (second-none s k (omega arith)),
     ahead-same stamp s _ (suc k) (keeps-gone stamp s a k loose.None j h e) m (suc k) (omega arith) room,
   )
 
-  stays-gone : (w : Write) (j : ℕ) → j < length (rowsOf s) → k ≡ length (rowsOf s) + length (rowsOf s) + 1 + j → w4 s (modeOf s) (rowAt (rowsOf s) j) ≡ w ∷ [] → Stays w
+  stays-gone : (w : Write) (j : ℕ) → j < length (rowsOf s) → k ≡ length (rowsOf s) + length (rowsOf s) + 1 + j → w4 s (modeOf s) (theRow s j) ≡ w ∷ [] → Stays w
   unfolding w4
-  stays-gone w j h q e = subst Stays (when-shape ((isDelete (changeIn (rowAt (rowsOf s) j)) || isDirect s (modeOf s) (rowAt (rowsOf s) j)) && not (isLogOnly (changeIn (rowAt (rowsOf s) j))) && not (isNone (entryOf s (nameIn (rowAt (rowsOf s) j)) .loose))) (removeLoose (nameIn (rowAt (rowsOf s) j))) w e) (made-gone j h q)
+  stays-gone w j h q e = subst Stays (when-shape ((isDelete (changeIn (theRow s j)) || isDirect s (modeOf s) (theRow s j)) && not (isLogOnly (changeIn (theRow s j))) && not (isNone (entryOf s (nameIn (theRow s j)) .loose))) (removeLoose (nameIn (theRow s j))) w e) (made-gone j h q)
 
   -- whatever the place writes first
   pub first-stays : (w : Write) → firstAt stamp s k ≡ w ∷ [] → Stays w
@@ -124,8 +124,8 @@ module _ (stamp : Stamp) (s : Store) (a : Apart (rowsOf s)) (k m : ℕ) (room : 
   first-stays w e = go (ltb k (length (rowsOf s))) refl e
     where
       last : (b c : Bool) → ltb (k - length (rowsOf s)) (length (rowsOf s)) ≡ b → eqb (k - length (rowsOf s)) (length (rowsOf s)) ≡ c → length (rowsOf s) ≤ k
-          → cond b (w2 s (rowAt (rowsOf s) (k - length (rowsOf s))))
-          (cond c (w3 s (modeOf s) (rowsOf s)) (w4 s (modeOf s) (rowAt (rowsOf s) (k - length (rowsOf s) - length (rowsOf s) - 1)))) ≡ w ∷ [] → Stays w
+          → cond b (w2 s (theRow s (k - length (rowsOf s))))
+          (cond c (w3 s (modeOf s) (rowsOf s)) (w4 s (modeOf s) (theRow s (k - length (rowsOf s) - length (rowsOf s) - 1)))) ≡ w ∷ [] → Stays w
       last true c p q l h = stays-log w (k - length (rowsOf s)) (ltb-true _ _ p) (omega arith) h
       last false true p q l h = let d : k - length (rowsOf s) ≡ length (rowsOf s) = eqb-true _ _ q in stays-packed w (omega arith) h
       last false false p q l h =
@@ -134,15 +134,15 @@ module _ (stamp : Stamp) (s : Store) (a : Apart (rowsOf s)) (k m : ℕ) (room : 
           stays-gone w (k - length (rowsOf s) - length (rowsOf s) - 1) (omega arith) (omega arith) h
 
       go : (b : Bool) → ltb k (length (rowsOf s)) ≡ b
-          → cond b (map appendLine (dueLine stamp s (rowAt (rowsOf s) k)))
-          (cond (ltb (k - length (rowsOf s)) (length (rowsOf s))) (w2 s (rowAt (rowsOf s) (k - length (rowsOf s))))
-          (cond (eqb (k - length (rowsOf s)) (length (rowsOf s))) (w3 s (modeOf s) (rowsOf s)) (w4 s (modeOf s) (rowAt (rowsOf s) (k - length (rowsOf s) - length (rowsOf s) - 1)))))
+          → cond b (map appendLine (dueLine stamp s (theRow s k)))
+          (cond (ltb (k - length (rowsOf s)) (length (rowsOf s))) (w2 s (theRow s (k - length (rowsOf s))))
+          (cond (eqb (k - length (rowsOf s)) (length (rowsOf s))) (w3 s (modeOf s) (rowsOf s)) (w4 s (modeOf s) (theRow s (k - length (rowsOf s) - length (rowsOf s) - 1)))))
           ≡ w ∷ [] → Stays w
       go true p h = stays-line w (ltb-true k (length (rowsOf s)) p) h
       go false p h = last (ltb (k - length (rowsOf s)) (length (rowsOf s))) (eqb (k - length (rowsOf s)) (length (rowsOf s))) refl refl (ltb-false k (length (rowsOf s)) p) h
 
-  made-loose : (t : Target) → k < length (rowsOf s) → isDelete (changeIn (rowAt (rowsOf s) k)) ≡ false → isDirect s (modeOf s) (rowAt (rowsOf s) k) ≡ false
-      → ahead stamp (apply (writeLoose (nameIn (rowAt (rowsOf s) k)) t) s) (suc k) m ≡ ahead stamp s (suc k) m
+  made-loose : (t : Target) → k < length (rowsOf s) → isDelete (changeIn (theRow s k)) ≡ false → isDirect s (modeOf s) (theRow s k) ≡ false
+      → ahead stamp (apply (writeLoose (nameIn (theRow s k)) t) s) (suc k) m ≡ ahead stamp s (suc k) m
   unfolding apply
   made-loose t h d f = ahead-same stamp s _ (suc k) (keeps-loose stamp s a k (loose.Target t) h d f) m (suc k) (omega arith) room
 
@@ -152,12 +152,12 @@ module _ (stamp : Stamp) (s : Store) (a : Apart (rowsOf s)) (k m : ℕ) (room : 
   second-stays w e = go (ltb k (length (rowsOf s))) refl e
     where
       go : (b : Bool) → ltb k (length (rowsOf s)) ≡ b
-          → cond b (cond (keepsLock s (modeOf s) (rowAt (rowsOf s) k) && not (isLogOnly (changeIn (rowAt (rowsOf s) k))) && not (isDirect s (modeOf s) (rowAt (rowsOf s) k)))
-          (looseWrite (nameIn (rowAt (rowsOf s) k)) (newValue (changeIn (rowAt (rowsOf s) k)))) []) []
+          → cond b (cond (keepsLock s (modeOf s) (theRow s k) && not (isLogOnly (changeIn (theRow s k))) && not (isDirect s (modeOf s) (theRow s k)))
+          (looseWrite (nameIn (theRow s k)) (newValue (changeIn (theRow s k)))) []) []
           ≡ w ∷ [] → ahead stamp (apply w s) (suc k) m ≡ ahead stamp s (suc k) m
       go true p h =
-          let sh = loose-shape (keepsLock s (modeOf s) (rowAt (rowsOf s) k)) (isLogOnly (changeIn (rowAt (rowsOf s) k))) (isDirect s (modeOf s) (rowAt (rowsOf s) k))
-          (nameIn (rowAt (rowsOf s) k)) (newValue (changeIn (rowAt (rowsOf s) k))) w h in
+          let sh = loose-shape (keepsLock s (modeOf s) (theRow s k)) (isLogOnly (changeIn (theRow s k))) (isDirect s (modeOf s) (theRow s k))
+          (nameIn (theRow s k)) (newValue (changeIn (theRow s k))) w h in
           subst (λ (w : Write). ahead stamp (apply w s) (suc k) m ≡ ahead stamp s (suc k) m) (sh .1)
-          (made-loose (sh .0) (ltb-true k (length (rowsOf s)) p) (valued-updates (changeIn (rowAt (rowsOf s) k)) (sh .0) (sh .3)) (sh .2))
+          (made-loose (sh .0) (ltb-true k (length (rowsOf s)) p) (valued-updates (changeIn (theRow s k)) (sh .0) (sh .3)) (sh .2))
       go false p h = no-write w h

@@ -11,8 +11,8 @@ use Rattle.transaction.specs.declared.PackedRefs.{PackedRefs}
 use Rattle.transaction.specs.declared.Edit.{Edit}
 use Rattle.model.specs.declared.Packed.{Packed}
 use Rattle.model.specs.Basic.{any, isEmpty, collect}
-use Rattle.model.specs.Store.{Store, count, rowsIn, modeIn}
-use Rattle.model.specs.Rows.{nameIn, rowAt, opens}
+use Rattle.model.specs.Store.{Store, count}
+use Rattle.model.specs.Rows.{nameIn, opens}
 use Rattle.model.specs.Due.{Stamp, dueLine}
 use Rattle.model.specs.Writes.{PackedEdit, packedEdit, packedEdits, w2, w3, w4}
 use Rattle.model.specs.Writes.Write.{appendLine}
@@ -21,7 +21,7 @@ use Rattle.writes.specs.declared.OptionWrite.{OptionWrite}
 use Rattle.writes.specs.declared.OptionWrite.the-variants.{NoWrite, WritePacked}
 use Rattle.writes.specs.declared.OptionPackedEdit.{OptionPackedEdit}
 use Rattle.writes.specs.declared.OptionPackedEdit.the-variants.{NoPackedEdit, Sets}
-use Rattle.writes.specs.Next.{packedList, writeList, looseOf, firstAt, secondAt, places}
+use Rattle.writes.specs.Next.{rowsOf, modeOf, theRow, packedList, writeList, looseOf, firstAt, secondAt, places}
 
 pub edit-there : (n : NameNumber) (o : OptionPackedEdit) (v : Packed) (ps : List PackedEdit) → packedList n o ≡ ps → o ≡ Sets v → true ≡ not (isEmpty ps)
 edit-there n o v ps e f = rw (← e, f)
@@ -38,51 +38,51 @@ any-collect {A} {B} f (x ∷ xs) = go (f x) (any-collect f xs)
     go [] h = h
     go (y ∷ ys) h = refl
 
-pub edits-any : (s : Store) (mode : PackedRefs) → mode ≡ modeIn (s .prepared) → any (λ (r : Edit). not (isEmpty (packedEdit s mode r))) (rowsIn (s .prepared))
-    ≡ not (isEmpty (packedEdits s (modeIn (s .prepared)) (rowsIn (s .prepared))))
-edits-any s mode e = any-collect (packedEdit s mode) (rowsIn (s .prepared)) ∙ ap (λ (m : PackedRefs). not (isEmpty (packedEdits s m (rowsIn (s .prepared))))) e
+pub edits-any : (s : Store) (mode : PackedRefs) → mode ≡ modeOf s → any (λ (r : Edit). not (isEmpty (packedEdit s mode r))) (rowsOf s)
+    ≡ not (isEmpty (packedEdits s (modeOf s) (rowsOf s)))
+edits-any s mode e = any-collect (packedEdit s mode) (rowsOf s) ∙ ap (λ (m : PackedRefs). not (isEmpty (packedEdits s m (rowsOf s)))) e
 
-pub row-named : (s : Store) (rows i : ℕ) (r : Edit) → Named s → rows ≡ length (rowsIn (s .prepared)) → i < rows → r ≡ rowAt (rowsIn (s .prepared)) i → nameIn r .0 < count s
+pub row-named : (s : Store) (rows i : ℕ) (r : Edit) → Named s → rows ≡ length (rowsOf s) → i < rows → r ≡ theRow s i → nameIn r .0 < count s
 row-named s rows i r n e l er = rw er (n .named i (rw e at l))
 
-pub gone-named : (s : Store) (n k : ℕ) (r : Edit) → Named s → n ≡ length (rowsIn (s .prepared)) → k < places s → n ≤ k → n ≤ k - n → (k - n ≡ n → ⊥)
-    → r ≡ rowAt (rowsIn (s .prepared)) (k - n - n - 1) → nameIn r .0 < count s
+pub gone-named : (s : Store) (n k : ℕ) (r : Edit) → Named s → n ≡ length (rowsOf s) → k < places s → n ≤ k → n ≤ k - n → (k - n ≡ n → ⊥)
+    → r ≡ theRow s (k - n - n - 1) → nameIn r .0 < count s
 gone-named s n k r d e h l g ne er = rw er (d .named (k - n - n - 1) (omega arith))
 
-module _ (s : Store) (o : Bool) (eo : o ≡ opens s (modeIn (s .prepared)) (rowsIn (s .prepared))) where
-  pub packed-shut : not o ≡ true → writeList s NoWrite ≡ w3 s (modeIn (s .prepared)) (rowsIn (s .prepared))
+module _ (s : Store) (o : Bool) (eo : o ≡ opens s (modeOf s) (rowsOf s)) where
+  pub packed-shut : not o ≡ true → writeList s NoWrite ≡ w3 s (modeOf s) (rowsOf s)
   unfolding writeList w3
   packed-shut t = rw (sym eo ∙ not-true o t)
 
-  module _ (yes : not o ≡ false) (a : Bool) (ea : a ≡ not (isEmpty (packedEdits s (modeIn (s .prepared)) (rowsIn (s .prepared))))) where
-    pub packed-empty : not a ≡ true → writeList s NoWrite ≡ w3 s (modeIn (s .prepared)) (rowsIn (s .prepared))
+  module _ (yes : not o ≡ false) (a : Bool) (ea : a ≡ not (isEmpty (packedEdits s (modeOf s) (rowsOf s)))) where
+    pub packed-empty : not a ≡ true → writeList s NoWrite ≡ w3 s (modeOf s) (rowsOf s)
     unfolding writeList w3
     packed-empty t = rw (sym eo ∙ not-false o yes, sym ea ∙ not-true a t)
 
-    pub packed-so : not a ≡ false → writeList s WritePacked ≡ w3 s (modeIn (s .prepared)) (rowsIn (s .prepared))
+    pub packed-so : not a ≡ false → writeList s WritePacked ≡ w3 s (modeOf s) (rowsOf s)
     unfolding writeList w3
     packed-so t = rw (sym eo ∙ not-false o yes, sym ea ∙ not-false a t)
 
-module _ (stamp : Stamp) (s : Store) (k n : ℕ) (x : OptionWrite) (en : n ≡ length (rowsIn (s .prepared))) where
-  pub at-line : (r : Edit) → k < n → r ≡ rowAt (rowsIn (s .prepared)) k → writeList s x ≡ map appendLine (dueLine stamp s r) → writeList s x ≡ firstAt stamp s k
+module _ (stamp : Stamp) (s : Store) (k n : ℕ) (x : OptionWrite) (en : n ≡ length (rowsOf s)) where
+  pub at-line : (r : Edit) → k < n → r ≡ theRow s k → writeList s x ≡ map appendLine (dueLine stamp s r) → writeList s x ≡ firstAt stamp s k
   unfolding firstAt
   at-line r l er h = h ∙ (rw (er, ← en, lt-ltb k n l))
 
-  pub at-log : (r : Edit) → n ≤ k → k - n < n → r ≡ rowAt (rowsIn (s .prepared)) (k - n) → writeList s x ≡ w2 s r → writeList s x ≡ firstAt stamp s k
+  pub at-log : (r : Edit) → n ≤ k → k - n < n → r ≡ theRow s (k - n) → writeList s x ≡ w2 s r → writeList s x ≡ firstAt stamp s k
   unfolding firstAt
   at-log r l g er h = h ∙ (rw (er, ← en, le-ltb k n l, lt-ltb (k - n) n g))
 
-  pub at-packed : n ≤ k → n ≤ k - n → k - n ≡ n → writeList s x ≡ w3 s (modeIn (s .prepared)) (rowsIn (s .prepared)) → writeList s x ≡ firstAt stamp s k
+  pub at-packed : n ≤ k → n ≤ k - n → k - n ≡ n → writeList s x ≡ w3 s (modeOf s) (rowsOf s) → writeList s x ≡ firstAt stamp s k
   unfolding firstAt
   at-packed l g e h = h ∙ (rw (← en, le-ltb k n l, le-ltb (k - n) n g, eq-eqb (k - n) n e))
 
-  pub at-gone : (mode : PackedRefs) (r : Edit) → n ≤ k → n ≤ k - n → (k - n ≡ n → ⊥) → mode ≡ modeIn (s .prepared) → r ≡ rowAt (rowsIn (s .prepared)) (k - n - n - 1)
+  pub at-gone : (mode : PackedRefs) (r : Edit) → n ≤ k → n ≤ k - n → (k - n ≡ n → ⊥) → mode ≡ modeOf s → r ≡ theRow s (k - n - n - 1)
       → writeList s x ≡ w4 s mode r → writeList s x ≡ firstAt stamp s k
   unfolding firstAt
   at-gone mode r l g e em er h = h ∙ (rw (em, er, ← en, le-ltb k n l, le-ltb (k - n) n g, ne-eqb (k - n) n e))
 
-module _ (s : Store) (k n : ℕ) (en : n ≡ length (rowsIn (s .prepared))) where
-  pub at-loose : (x : OptionWrite) (mode : PackedRefs) (r : Edit) → k < n → mode ≡ modeIn (s .prepared) → r ≡ rowAt (rowsIn (s .prepared)) k → writeList s x ≡ looseOf s mode r
+module _ (s : Store) (k n : ℕ) (en : n ≡ length (rowsOf s)) where
+  pub at-loose : (x : OptionWrite) (mode : PackedRefs) (r : Edit) → k < n → mode ≡ modeOf s → r ≡ theRow s k → writeList s x ≡ looseOf s mode r
       → writeList s x ≡ secondAt s k
   unfolding secondAt
   at-loose x mode r l em er h = h ∙ (rw (em, er, ← en, lt-ltb k n l))

@@ -8,10 +8,9 @@ use borrow.Author.Tests.{lt-ltb, le-ltb, eq-eqb, ne-eqb}
 use Rattle.transaction.specs.declared.Edit.{Edit}
 use Rattle.model.specs.Basic.{collect}
 use Rattle.model.specs.Store.{Store, noRow}
-use Rattle.model.specs.Rows.{rowAt}
 use Rattle.model.specs.Due.{Stamp}
 use Rattle.model.specs.Writes.{Write, w1, w2, w3, w4, orderedWrites, writes}
-use Rattle.writes.specs.Next.{rowsOf, modeOf, looseOf, firstAt, secondAt, places, ahead}
+use Rattle.writes.specs.Next.{rowsOf, modeOf, theRow, looseOf, firstAt, secondAt, places, ahead}
 
 -- a stretch of places that are the rows' turns
 ahead-rows : (stamp : Stamp) (s : Store) (f : Edit → List Write) (xs : List Edit) (k m : ℕ)
@@ -32,16 +31,16 @@ ahead-rows stamp s f (x ∷ xs) k m h =
     ∙ sym (append-assoc (f x) (collect f xs) (ahead stamp s (k + suc (length xs)) m))
 
 module _ (stamp : Stamp) (s : Store) where
-  at-1 : (j : ℕ) → j < length (rowsOf s) → firstAt stamp s (0 + j) ++ secondAt s (0 + j) ≡ w1 stamp s (modeOf s) (rowAt (rowsOf s) j)
+  at-1 : (j : ℕ) → j < length (rowsOf s) → firstAt stamp s (0 + j) ++ secondAt s (0 + j) ≡ w1 stamp s (modeOf s) (theRow s j)
   unfolding firstAt secondAt w1 looseOf
   at-1 j l = let z : 0 + j ≡ j = omega arith in rw (z, lt-ltb j (length (rowsOf s)) l) refl
 
-  at-2 : (j : ℕ) → j < length (rowsOf s) → firstAt stamp s (length (rowsOf s) + j) ++ secondAt s (length (rowsOf s) + j) ≡ w2 s (rowAt (rowsOf s) j)
+  at-2 : (j : ℕ) → j < length (rowsOf s) → firstAt stamp s (length (rowsOf s) + j) ++ secondAt s (length (rowsOf s) + j) ≡ w2 s (theRow s j)
   unfolding firstAt secondAt
   at-2 j l =
       let z : length (rowsOf s) + j - length (rowsOf s) ≡ j = omega arith in
       let q : length (rowsOf s) ≤ length (rowsOf s) + j = omega arith in
-      rw (le-ltb (length (rowsOf s) + j) (length (rowsOf s)) q, z, lt-ltb j (length (rowsOf s)) l) (append-nil (w2 s (rowAt (rowsOf s) j)))
+      rw (le-ltb (length (rowsOf s) + j) (length (rowsOf s)) q, z, lt-ltb j (length (rowsOf s)) l) (append-nil (w2 s (theRow s j)))
 
   at-3 : firstAt stamp s (length (rowsOf s) + length (rowsOf s)) ++ secondAt s (length (rowsOf s) + length (rowsOf s)) ≡ w3 s (modeOf s) (rowsOf s)
   unfolding firstAt secondAt
@@ -53,7 +52,7 @@ module _ (stamp : Stamp) (s : Store) where
       (append-nil (w3 s (modeOf s) (rowsOf s)))
 
   at-4 : (j : ℕ) → j < length (rowsOf s)
-      → firstAt stamp s (suc (length (rowsOf s) + length (rowsOf s)) + j) ++ secondAt s (suc (length (rowsOf s) + length (rowsOf s)) + j) ≡ w4 s (modeOf s) (rowAt (rowsOf s) j)
+      → firstAt stamp s (suc (length (rowsOf s) + length (rowsOf s)) + j) ++ secondAt s (suc (length (rowsOf s) + length (rowsOf s)) + j) ≡ w4 s (modeOf s) (theRow s j)
   unfolding firstAt secondAt
   at-4 j l =
       let n : ℕ = length (rowsOf s) in
@@ -63,7 +62,7 @@ module _ (stamp : Stamp) (s : Store) where
       let p : length (rowsOf s) ≤ k - length (rowsOf s) = omega arith in
       let d : k - length (rowsOf s) ≡ length (rowsOf s) → ⊥ = λ e. absurd (omega arith) in
       rw (le-ltb k (length (rowsOf s)) q, le-ltb (k - length (rowsOf s)) (length (rowsOf s)) p, ne-eqb (k - length (rowsOf s)) (length (rowsOf s)) d, z)
-      (append-nil (w4 s (modeOf s) (rowAt (rowsOf s) j)))
+      (append-nil (w4 s (modeOf s) (theRow s j)))
 
   pub whole : ahead stamp s 0 (places s) ≡ writes stamp s
   unfolding orderedWrites ahead

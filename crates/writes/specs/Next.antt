@@ -25,6 +25,9 @@ rowsOf s = rowsIn (s .prepared)
 abbrev pub modeOf : Store → PackedRefs
 modeOf s = modeIn (s .prepared)
 
+abbrev pub theRow : Store → ℕ → Edit
+theRow s i = rowAt (rowsOf s) i
+
 -- ---- the code's own forms of a packed edit and of a write, which may be missing, as the lists of the definitions
 
 abbrev pub packedList : NameNumber → OptionPackedEdit → List PackedEdit
