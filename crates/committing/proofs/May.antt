@@ -2,11 +2,11 @@
 use mathlib.Core.Path.{_≡_, refl, sym, ap, _∙_, subst}
 use mathlib.Core.Bool.{Bool, true, false, _&&_, _||_, not, cond}
 use mathlib.Core.List.{List, [], _∷_, map}
-use Prim.Native.Nat.{ℕ, _+_, _-_, _≤_, _<_, _^_}
+use Prim.Native.Nat.{ℕ, _+_, _≤_, _<_, _^_}
 use native.Mathlib.Omega.{arith}
 use lib.ListN.{length}
-use lib.Dec.{eqb, ltb, lit<}
-use borrow.Author.Tests.{eqb-false, ltb-true, ltb-false}
+use lib.Dec.{ltb, lit<}
+use borrow.Author.Tests.{ltb-true}
 use Rattle.target.specs.declared.ObjectNumber.{ObjectNumber}
 use Rattle.target.specs.declared.Target.the-variants.{Object, Symbolic}
 use Rattle.target.specs.Target.{sameObject}
@@ -34,6 +34,7 @@ use Rattle.writes.specs.declared.OptionWrite.the-variants as next
 use Rattle.writes.specs.Next.{rowsOf, modeOf, theRow, writeList, looseOf, firstAt, secondAt, places}
 use Rattle.rows.specs.Rows.{Named, Apart}
 use Rattle.committing.specs.Running.{Makes, isNoWrite}
+use Rattle.writes.proofs.Place.{first-by}
 use Rattle.writes.proofs.Steps.{headOr, no-write, when-shape, loose-shape}
 use Rattle.committing.proofs.Judge.{shape}
 
@@ -141,28 +142,11 @@ module _ (r : List ℕ) (l : Laid r) (named : Named (view r)) (a : Apart (rowsOf
       ((isDelete (changeIn (theRow (view r) i)) || isDirect (view r) (modeOf (view r)) (theRow (view r) i)) && not (isLogOnly (changeIn (theRow (view r) i))) && not (isNone (entryOf (view r) (nameIn (theRow (view r) i)) .loose)))
       (removeLoose (nameIn (theRow (view r) i))) w e) (named .named i h)
 
-  first-needs : (c k : ℕ) (w : Write) → c ≤ 65535 → k < places (view r) → length (view r .lines) + linesIn (w ∷ []) ≤ 1024 → firstAt (by c) (view r) k ≡ w ∷ [] → Needs (view r) w
-  unfolding firstAt
-  first-needs c k w hc hk room e = go (ltb k (length (rowsOf (view r)))) refl e
-    where
-      last : (b d : Bool) → ltb (k - length (rowsOf (view r))) (length (rowsOf (view r))) ≡ b → eqb (k - length (rowsOf (view r))) (length (rowsOf (view r))) ≡ d → length (rowsOf (view r)) ≤ k
-          → cond b (w2 (view r) (theRow (view r) (k - length (rowsOf (view r)))))
-          (cond d (w3 (view r) (modeOf (view r)) (rowsOf (view r))) (w4 (view r) (modeOf (view r)) (theRow (view r) (k - length (rowsOf (view r)) - length (rowsOf (view r)) - 1)))) ≡ w ∷ []
-          → Needs (view r) w
-      last true d p q h f = log-needs (k - length (rowsOf (view r))) w f
-      last false true p q h f = packed-needs w f
-      last false false p q h f =
-          let g : length (rowsOf (view r)) ≤ k - length (rowsOf (view r)) = ltb-false (k - length (rowsOf (view r))) (length (rowsOf (view r))) p in
-          let o : k - length (rowsOf (view r)) ≡ length (rowsOf (view r)) → ⊥ = eqb-false (k - length (rowsOf (view r))) (length (rowsOf (view r))) q in
-          gone-needs (k - length (rowsOf (view r)) - length (rowsOf (view r)) - 1) w (omega arith) f
-
-      go : (b : Bool) → ltb k (length (rowsOf (view r))) ≡ b
-          → cond b (map appendLine (dueLine (by c) (view r) (theRow (view r) k)))
-          (cond (ltb (k - length (rowsOf (view r))) (length (rowsOf (view r)))) (w2 (view r) (theRow (view r) (k - length (rowsOf (view r)))))
-          (cond (eqb (k - length (rowsOf (view r))) (length (rowsOf (view r)))) (w3 (view r) (modeOf (view r)) (rowsOf (view r))) (w4 (view r) (modeOf (view r)) (theRow (view r) (k - length (rowsOf (view r)) - length (rowsOf (view r)) - 1))))) ≡ w ∷ []
-          → Needs (view r) w
-      go true p f = let h : k < length (rowsOf (view r)) = ltb-true k (length (rowsOf (view r))) p in line-needs c k w hc h room f
-      go false p f = last (ltb (k - length (rowsOf (view r))) (length (rowsOf (view r)))) (eqb (k - length (rowsOf (view r))) (length (rowsOf (view r)))) refl refl (ltb-false k (length (rowsOf (view r))) p) f
+  first-needs : (c k : ℕ) (w : Write) → c ≤ 65535 → k < places (view r) → length (view r .lines) + linesIn (w ∷ []) ≤ 1024
+      → firstAt (by c) (view r) k ≡ w ∷ [] → Needs (view r) w
+  first-needs c k w hc hk room =
+      first-by (by c) (view r) k (λ us. us ≡ w ∷ [] → Needs (view r) w) hk
+      (λ h. line-needs c k w hc h room) (λ j h q. log-needs j w) (λ q. packed-needs w) (λ j h q. gone-needs j w h)
 
   second-needs : (k : ℕ) (w : Write) → secondAt (view r) k ≡ w ∷ [] → Needs (view r) w
   unfolding secondAt

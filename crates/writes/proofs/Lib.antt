@@ -1,5 +1,6 @@
 pub mod Says
 pub mod Turns
+pub mod Place
 pub mod Stable
 pub mod Keeps
 pub mod Steps

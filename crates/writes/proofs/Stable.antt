@@ -3,11 +3,11 @@ use mathlib.Core.Path.{_≡_, refl, sym, ap, ap₂, _∙_}
 use mathlib.Core.Bool.{Bool, true, false, _&&_, _||_, not, cond}
 use mathlib.Core.List.{List, [], _∷_, _++_, map, append-nil}
 use mathlib.Core.Option.{Option}
-use Prim.Native.Nat.{ℕ, zero, suc, _+_, _-_, _≤_, _<_}
+use Prim.Native.Nat.{ℕ, zero, suc, _+_, _≤_, _<_}
 use native.Mathlib.Omega.{arith}
 use lib.ListN.{length, getD}
 use lib.Dec.{ltb, eqb}
-use borrow.Author.Tests.{eqb-true, eqb-false, ne-eqb, ltb-true, ltb-false}
+use borrow.Author.Tests.{ne-eqb, ltb-true}
 use Rattle.target.specs.declared.NameNumber.{NameNumber}
 use Rattle.transaction.specs.declared.PackedRefs.{PackedRefs}
 use Rattle.transaction.specs.declared.Edit.{Edit}
@@ -18,11 +18,12 @@ use Rattle.model.specs.Basic.{any, select, collect, isEmpty, when}
 use Rattle.model.specs.Store.{Store, Prepared, rowsIn, modeIn, Entry, noEntry, entryOf, nameOf, isOf, isPacked, linesOf, putLoose, putPacked, changeAt, changeEntry, withEntries, withLines}
 use Rattle.model.specs.Rows.{nameIn, changeIn, counts, countsAsUpdate, opens, isDirect, keepsLock}
 use Rattle.model.specs.Due.{Stamp, hasLines, isLogged, dueLine}
-use Rattle.model.specs.Writes.{Write, PackedEdit, apply, applyPacked, packedEdit, w2, w3, w4}
+use Rattle.model.specs.Writes.{PackedEdit, apply, applyPacked, packedEdit, w2, w3, w4}
 use Rattle.model.specs.Writes.Write.{appendLine, removeLog, writePacked}
 use Rattle.model.proofs.Base.{changed-keeps, changed-other}
 use Rattle.model.proofs.Touch.{log-after}
 use Rattle.writes.specs.Next.{rowsOf, modeOf, theRow, looseOf, firstBy, secondBy, firstAt, secondAt, places, ahead}
+use Rattle.writes.proofs.Place.{by-place}
 
 -- ---- lists
 
@@ -182,29 +183,12 @@ pub record Same (stamp : Stamp) (s t : Store) (k : ℕ) : Type 0 where
 module _ (stamp : Stamp) (s t : Store) (k : ℕ) (same : Same stamp s t k) where
   first-same : (j : ℕ) → k ≤ j → j < places s → firstAt stamp t j ≡ firstAt stamp s j
   unfolding firstAt
-  first-same j h g = ap (λ (p : Option Prepared). firstBy stamp t (modeIn p) (rowsIn p) j) (same .rest) ∙ go (ltb j (length (rowsOf s))) refl
-    where
-      rest : Store → Bool → Bool → List Write
-      rest x b c =
-          cond b (w2 x (theRow s (j - length (rowsOf s))))
-          (cond c (w3 x (modeOf s) (rowsOf s)) (w4 x (modeOf s) (theRow s (j - length (rowsOf s) - length (rowsOf s) - 1))))
-
-      last : (b c : Bool) → ltb (j - length (rowsOf s)) (length (rowsOf s)) ≡ b → eqb (j - length (rowsOf s)) (length (rowsOf s)) ≡ c → length (rowsOf s) ≤ j
-          → rest t b c ≡ rest s b c
-      last true c p q l = let a : j - length (rowsOf s) < length (rowsOf s) = ltb-true (j - length (rowsOf s)) (length (rowsOf s)) p in same .two (j - length (rowsOf s)) (omega arith) a
-      last false true p q l = let a : j - length (rowsOf s) ≡ length (rowsOf s) = eqb-true (j - length (rowsOf s)) (length (rowsOf s)) q in same .three (omega arith)
-      last false false p q l =
-          let a : length (rowsOf s) ≤ j - length (rowsOf s) = ltb-false (j - length (rowsOf s)) (length (rowsOf s)) p in
-          let b : j - length (rowsOf s) ≡ length (rowsOf s) → ⊥ = eqb-false (j - length (rowsOf s)) (length (rowsOf s)) q in
-          same .four (j - length (rowsOf s) - length (rowsOf s) - 1) (omega arith) (omega arith)
-
-      go : (b : Bool) → ltb j (length (rowsOf s)) ≡ b
-          → cond b (map appendLine (dueLine stamp t (theRow s j)))
-          (rest t (ltb (j - length (rowsOf s)) (length (rowsOf s))) (eqb (j - length (rowsOf s)) (length (rowsOf s))))
-          ≡ cond b (map appendLine (dueLine stamp s (theRow s j)))
-          (rest s (ltb (j - length (rowsOf s)) (length (rowsOf s))) (eqb (j - length (rowsOf s)) (length (rowsOf s))))
-      go true e = ap (map appendLine) (same .due j h (ltb-true j (length (rowsOf s)) e))
-      go false e = last (ltb (j - length (rowsOf s)) (length (rowsOf s))) (eqb (j - length (rowsOf s)) (length (rowsOf s))) refl refl (ltb-false j (length (rowsOf s)) e)
+  first-same j h g =
+      ap (λ (p : Option Prepared). firstBy stamp t (modeIn p) (rowsIn p) j) (same .rest)
+      ∙ by-place _≡_ (length (rowsOf s)) j (map appendLine (dueLine stamp t (theRow s j))) (map appendLine (dueLine stamp s (theRow s j)))
+      (λ i. w2 t (theRow s i)) (λ i. w2 s (theRow s i)) (w3 t (modeOf s) (rowsOf s)) (w3 s (modeOf s) (rowsOf s))
+      (λ i. w4 t (modeOf s) (theRow s i)) (λ i. w4 s (modeOf s) (theRow s i)) g
+      (λ l. ap (map appendLine) (same .due j h l)) (λ i l e. same .two i (omega arith) l) (λ e. same .three (omega arith)) (λ i l e. same .four i (omega arith) l)
 
   pub second-same : (j : ℕ) → k ≤ j → secondAt t j ≡ secondAt s j
   unfolding secondAt

@@ -2,11 +2,11 @@
 use mathlib.Core.Path.{_≡_, refl, sym, ap, _∙_, subst}
 use mathlib.Core.Bool.{Bool, true, false, _&&_, _||_, not, cond}
 use mathlib.Core.List.{List, [], _∷_, map}
-use Prim.Native.Nat.{ℕ, suc, _+_, _-_, _≤_, _<_}
+use Prim.Native.Nat.{ℕ, suc, _+_, _≤_, _<_}
 use native.Mathlib.Omega.{arith}
 use lib.ListN.{length}
-use lib.Dec.{eqb, ltb}
-use borrow.Author.Tests.{eqb-true, eqb-false, ltb-true, ltb-false, le-ltb}
+use lib.Dec.{ltb}
+use borrow.Author.Tests.{ltb-true, le-ltb}
 use Rattle.target.specs.declared.NameNumber.{NameNumber}
 use Rattle.target.specs.declared.ObjectNumber.{ObjectNumber}
 use Rattle.target.specs.declared.Target.{Target}
@@ -27,6 +27,7 @@ use Rattle.model.specs.Writes.Write.{appendLine, writeLoose, removeLog, writePa
 use Rattle.writes.specs.Next.{rowsOf, modeOf, theRow, looseOf, firstAt, secondAt, places, ahead}
 use Rattle.writes.proofs.Stable.{ahead-same}
 use Rattle.rows.specs.Rows.{Apart}
+use Rattle.writes.proofs.Place.{first-by}
 use Rattle.writes.proofs.Keeps.{keeps-line, keeps-loose, keeps-log, keeps-packed, keeps-gone}
 
 -- ---- which write it is
@@ -120,26 +121,9 @@ module _ (stamp : Stamp) (s : Store) (a : Apart (rowsOf s)) (k m : ℕ) (room : 
 
   -- whatever the place writes first
   pub first-stays : (w : Write) → firstAt stamp s k ≡ w ∷ [] → Stays w
-  unfolding firstAt
-  first-stays w e = go (ltb k (length (rowsOf s))) refl e
-    where
-      last : (b c : Bool) → ltb (k - length (rowsOf s)) (length (rowsOf s)) ≡ b → eqb (k - length (rowsOf s)) (length (rowsOf s)) ≡ c → length (rowsOf s) ≤ k
-          → cond b (w2 s (theRow s (k - length (rowsOf s))))
-          (cond c (w3 s (modeOf s) (rowsOf s)) (w4 s (modeOf s) (theRow s (k - length (rowsOf s) - length (rowsOf s) - 1)))) ≡ w ∷ [] → Stays w
-      last true c p q l h = stays-log w (k - length (rowsOf s)) (ltb-true _ _ p) (omega arith) h
-      last false true p q l h = let d : k - length (rowsOf s) ≡ length (rowsOf s) = eqb-true _ _ q in stays-packed w (omega arith) h
-      last false false p q l h =
-          let d : length (rowsOf s) ≤ k - length (rowsOf s) = ltb-false (k - length (rowsOf s)) (length (rowsOf s)) p in
-          let f : k - length (rowsOf s) ≡ length (rowsOf s) → ⊥ = eqb-false (k - length (rowsOf s)) (length (rowsOf s)) q in
-          stays-gone w (k - length (rowsOf s) - length (rowsOf s) - 1) (omega arith) (omega arith) h
-
-      go : (b : Bool) → ltb k (length (rowsOf s)) ≡ b
-          → cond b (map appendLine (dueLine stamp s (theRow s k)))
-          (cond (ltb (k - length (rowsOf s)) (length (rowsOf s))) (w2 s (theRow s (k - length (rowsOf s))))
-          (cond (eqb (k - length (rowsOf s)) (length (rowsOf s))) (w3 s (modeOf s) (rowsOf s)) (w4 s (modeOf s) (theRow s (k - length (rowsOf s) - length (rowsOf s) - 1)))))
-          ≡ w ∷ [] → Stays w
-      go true p h = stays-line w (ltb-true k (length (rowsOf s)) p) h
-      go false p h = last (ltb (k - length (rowsOf s)) (length (rowsOf s))) (eqb (k - length (rowsOf s)) (length (rowsOf s))) refl refl (ltb-false k (length (rowsOf s)) p) h
+  first-stays w =
+      first-by stamp s k (λ us. us ≡ w ∷ [] → Stays w) (omega arith)
+      (λ h. stays-line w h) (λ j h q. stays-log w j h q) (λ q. stays-packed w q) (λ j h q. stays-gone w j h q)
 
   made-loose : (t : Target) → k < length (rowsOf s) → isDelete (changeIn (theRow s k)) ≡ false → isDirect s (modeOf s) (theRow s k) ≡ false
       → ahead stamp (apply (writeLoose (nameIn (theRow s k)) t) s) (suc k) m ≡ ahead stamp s (suc k) m
