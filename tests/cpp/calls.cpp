@@ -104,13 +104,7 @@ static Answer turn(uint8_t &lock, uint8_t from, uint8_t to)
 static Answer rollback(Store &store)
 {
     size_t rows = store.rows.size();
-    for (Entry &entry : store.entries)
-        if (entry.lock == OURS)
-            entry.lock = FREE;
-    if (store.packed_lock == OURS)
-        store.packed_lock = FREE;
-    store.mode = 0;
-    store.rows.clear();
+    forget_transaction(store);
     return answer(0, {rows});
 }
 
