@@ -17,6 +17,7 @@ void test_prepare_turns();
 void test_prepare_kept();
 void test_prepare_room();
 void test_commit_writes();
+void test_commit_lines();
 void test_prepare_marked();
 void test_random();
 void test_flips(size_t every); // turns over one bit of each so many
