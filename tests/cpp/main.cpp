@@ -40,6 +40,7 @@ int main(int count, char **words)
     part("prepare_room", test_prepare_room);
     part("commit_writes", test_commit_writes);
     part("commit_lines", test_commit_lines);
+    part("commit_stops", test_commit_stops);
     part("prepare_marked", test_prepare_marked);
     part("random", test_random);
     part("flips", [=] { test_flips(every); });
