@@ -41,7 +41,7 @@ int main(int count, char **words)
     part("commit_writes", test_commit_writes);
     part("commit_lines", test_commit_lines);
     part("commit_stops", test_commit_stops);
-    part("prepare_marked", test_prepare_marked);
+    part("marked", test_marked);
     part("random", test_random);
     part("flips", [=] { test_flips(every); });
     return closing() ? 0 : 1;
