@@ -41,6 +41,7 @@ int main(int count, char **words)
     part("commit_writes", test_commit_writes);
     part("commit_lines", test_commit_lines);
     part("commit_stops", test_commit_stops);
+    part("commit_everywhere", test_commit_everywhere);
     part("marked", test_marked);
     part("random", test_random);
     part("flips", [=] { test_flips(every); });

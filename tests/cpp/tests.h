@@ -19,6 +19,7 @@ void test_prepare_room();
 void test_commit_writes();
 void test_commit_lines();
 void test_commit_stops();
+void test_commit_everywhere();
 void test_marked();
 void test_random();
 void test_flips(size_t every); // turns over one bit of each so many
