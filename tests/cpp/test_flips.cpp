@@ -6,8 +6,9 @@
 #include "tests.h"
 #include "world.h"
 
-// Every call but start tests the region, so they take turns. 15 of them, an odd number, so that each meets every bit of a byte:
-// prepare has two lists, one for names without a packed value, and one that meets the packed table's lock.
+// Every call but start tests the region, so they take turns. 17 of them, an odd number, so that each meets every bit of a byte:
+// prepare has two lists, one for names without a packed value, and one that meets the packed table's lock; commit makes all writes,
+// and those before the third.
 static std::vector<Call> calls()
 {
     using namespace call;
@@ -15,7 +16,7 @@ static std::vector<Call> calls()
         read_row(1000000), read_row(1), rollback(), read_name(1), name_bytes(4), load_loose(1, OBJECT, 6),
         load_packed(1, NONE, 0), lock_name(0), unlock_name(2), lock_packed(), unlock_packed(), read_line(3, 0),
         add_name("refs/heads/new"), prepare(write_list({updating(0, object(6)), deleting(3)}), 3),
-        prepare(write_list({through(updating(0, object(6)))}), 1),
+        prepare(write_list({through(updating(0, object(6)))}), 1), commit(258, ~uint64_t(0)), commit(1, 2),
     };
 }
 
