@@ -1,5 +1,5 @@
-// A route planner's first use of Dehlbazin: it names a few aisles, loads their layouts, and reads them back by name. Then it
-// prepares a move of the layout that HEAD leads to, looks at what would be done, and gives it up.
+// A route planner's use of Dehlbazin: it names a few aisles, loads their layouts, and reads them back by name. It moves the layout
+// that HEAD leads to. Then it moves two at once, is stopped half way, reads what stands there, and prints the log.
 // Run it with: bash tools/example
 #include "dehlbazin.h"
 
@@ -7,6 +7,7 @@
 #include <cstdio>
 #include <cstdlib>
 #include <string>
+#include <vector>
 
 static std::array<uint8_t, DEHLBAZIN_REGION_SIZE> region; // the store: ours to lend, to copy, to keep in a file
 static std::array<uint8_t, DEHLBAZIN_ANSWER_SIZE> answer;
@@ -55,11 +56,12 @@ static std::string in_words(uint64_t kind, uint64_t number)
     return "none";
 }
 
-static std::string layout_of(const std::string &name)
+static void print_value(const std::string &name)
 {
     uint64_t number = number_of(name);
     must_be_done(dehlbazin_read_name(region.data(), region.size(), number, answer.data(), answer.size()), "reading " + name);
-    return in_words(place(DEHLBAZIN_READ_NAME_KIND), place(DEHLBAZIN_READ_NAME_NUMBER));
+    std::string value = in_words(place(DEHLBAZIN_READ_NAME_KIND), place(DEHLBAZIN_READ_NAME_NUMBER));
+    std::printf("%-20s %s\n", name.c_str(), value.c_str());
 }
 
 // Numbers in an edit list are big-endian.
@@ -69,25 +71,33 @@ static void put(uint8_t *at, uint64_t number, size_t bytes)
         at[--bytes] = uint8_t(number);
 }
 
-using List = std::array<uint8_t, DEHLBAZIN_LIST_HEADER_SIZE + DEHLBAZIN_LIST_EDIT_SIZE>;
+// A move: through the links of a name, from one layout to another, and not if something else than the first is there.
+struct Move {
+    std::string name;
+    uint64_t from, to;
+};
 
-// A list of one edit: through the links of a name, from one layout to another, and not if something else than the first is there.
-// What the edit does not use stays 0.
-static List move_through(uint64_t name, uint64_t from, uint64_t to)
+static void write_edit(uint8_t *edit, const Move &move)
 {
-    List list{};
-    list[DEHLBAZIN_LIST_AT_VERSION] = DEHLBAZIN_LIST_VERSION;
-    put(&list[DEHLBAZIN_LIST_AT_LENGTH], list.size() - DEHLBAZIN_LIST_AT_COUNT, 2);
-    list[DEHLBAZIN_LIST_AT_COUNT] = 1;
-    uint8_t *edit = &list[DEHLBAZIN_LIST_HEADER_SIZE];
     edit[DEHLBAZIN_EDIT_AT_KIND] = DEHLBAZIN_ROW_UPDATE;
     edit[DEHLBAZIN_EDIT_AT_DEREF] = 1;
     edit[DEHLBAZIN_EDIT_AT_EXPECTED] = DEHLBAZIN_EXPECTED_MUST_EXIST_AND_MATCH;
     edit[DEHLBAZIN_EDIT_AT_EXPECTED_KIND] = DEHLBAZIN_KIND_OBJECT;
-    put(edit + DEHLBAZIN_EDIT_AT_EXPECTED_NUMBER, from, 8);
+    put(edit + DEHLBAZIN_EDIT_AT_EXPECTED_NUMBER, move.from, 8);
     edit[DEHLBAZIN_EDIT_AT_NEW_KIND] = DEHLBAZIN_KIND_OBJECT;
-    put(edit + DEHLBAZIN_EDIT_AT_NEW_NUMBER, to, 8);
-    put(edit + DEHLBAZIN_EDIT_AT_NAME, name, 2); // a number that number_of gave, so it fits
+    put(edit + DEHLBAZIN_EDIT_AT_NEW_NUMBER, move.to, 8);
+    put(edit + DEHLBAZIN_EDIT_AT_NAME, number_of(move.name), 2); // what number_of gives fits
+}
+
+// The edit list of some moves, at most 32. What an edit does not use stays 0.
+static std::vector<uint8_t> list_of(const std::vector<Move> &moves)
+{
+    std::vector<uint8_t> list(DEHLBAZIN_LIST_HEADER_SIZE + DEHLBAZIN_LIST_EDIT_SIZE * moves.size());
+    list[DEHLBAZIN_LIST_AT_VERSION] = DEHLBAZIN_LIST_VERSION;
+    put(&list[DEHLBAZIN_LIST_AT_LENGTH], list.size() - DEHLBAZIN_LIST_AT_COUNT, 2);
+    list[DEHLBAZIN_LIST_AT_COUNT] = uint8_t(moves.size());
+    for (size_t i = 0; i < moves.size(); i++)
+        write_edit(&list[DEHLBAZIN_LIST_HEADER_SIZE + DEHLBAZIN_LIST_EDIT_SIZE * i], moves[i]);
     return list;
 }
 
@@ -104,10 +114,10 @@ static void print_row(uint64_t row)
     std::printf("%-20s %s, %s %s\n", name.c_str(), there.c_str(), log_only ? "logs" : "becomes", next.c_str());
 }
 
-// Prepares a move of the layout that HEAD leads to, shows its rows, and gives it up. The store is then as it was.
-static void try_move(uint64_t from, uint64_t to)
+// All moves are prepared or none, and the locks that they keep are ours until the commit. Shows the rows that they became.
+static void prepare(const std::vector<Move> &moves)
 {
-    const List list = move_through(number_of("HEAD"), from, to);
+    const std::vector<uint8_t> list = list_of(moves);
     const uint64_t mode = DEHLBAZIN_MODE_DELETIONS;
     must_be_done(
         dehlbazin_prepare(region.data(), region.size(), list.data(), list.size(), mode, answer.data(), answer.size()), "the move");
@@ -115,8 +125,35 @@ static void try_move(uint64_t from, uint64_t to)
     std::printf("prepared %u rows\n", unsigned(rows));
     for (uint64_t row = 0; row < rows; row++)
         print_row(row);
-    must_be_done(dehlbazin_rollback(region.data(), region.size(), answer.data(), answer.size()), "rolling back");
-    std::printf("rolled back %u rows\n", unsigned(place(DEHLBAZIN_ROLLBACK_ROWS)));
+}
+
+// Makes the writes, or as many of them as are allowed. Either way the transaction is over then, and its locks are free.
+static void commit(uint64_t committer, uint64_t allowance)
+{
+    uint32_t number =
+        dehlbazin_commit(region.data(), region.size(), committer, allowance, answer.data(), answer.size());
+    if (number == DEHLBAZIN_USED_UP) {
+        std::printf("stopped after %u writes\n", unsigned(place(DEHLBAZIN_USED_UP_WRITES)));
+        return;
+    }
+    must_be_done(number, "the commit");
+    std::printf("committed with %u writes\n", unsigned(place(DEHLBAZIN_COMMIT_WRITES)));
+}
+
+// The lines of a name's log, the oldest first.
+static void print_log(const std::string &name)
+{
+    uint64_t of = number_of(name);
+    for (uint64_t line = 0;; line++) {
+        uint32_t number = dehlbazin_read_line(region.data(), region.size(), of, line, answer.data(), answer.size());
+        if (number == DEHLBAZIN_NOTHING_THERE)
+            return;
+        must_be_done(number, "a line of " + name);
+        std::string before = std::to_string(place(DEHLBAZIN_READ_LINE_PREVIOUS));
+        std::string after = std::to_string(place(DEHLBAZIN_READ_LINE_NEW));
+        std::printf("%-20s %s to %s, by %u\n", name.c_str(), before.c_str(), after.c_str(),
+                    unsigned(place(DEHLBAZIN_READ_LINE_COMMITTER)));
+    }
 }
 
 int main()
@@ -130,10 +167,23 @@ int main()
 
     std::printf("%-20s %s\n", "aisle", "value");
     for (const char *name : {"HEAD", "refs/heads/aisle-7", "refs/heads/aisle-8", "refs/heads/aisle-9"})
-        std::printf("%-20s %s\n", name, layout_of(name).c_str());
+        print_value(name);
 
-    try_move(4102, 4103);
-    std::printf("%-20s %s\n", "refs/heads/aisle-7", layout_of("refs/heads/aisle-7").c_str());
+    const uint64_t planner = 12, every_write = ~uint64_t(0);
+    prepare({{"HEAD", 4102, 4103}});
+    commit(planner, every_write);
+    print_value("refs/heads/aisle-7");
+
+    // Three writes are too few for this. Each aisle reads its old layout or its new one then, never a third.
+    prepare({{"HEAD", 4103, 4104}, {"refs/heads/aisle-8", 18446744073709551615u, 4104}});
+    commit(planner, 3);
+    print_value("refs/heads/aisle-7");
+    print_value("refs/heads/aisle-8");
+
+    // A line is written before its value, so where a commit was stopped the log can be ahead of the aisles.
+    std::printf("%-20s %s\n", "log of", "move");
+    for (const char *name : {"HEAD", "refs/heads/aisle-7", "refs/heads/aisle-8"})
+        print_log(name);
 
     // A number that was mixed up on the way is refused whole. It is not taken for name 0.
     uint32_t number = dehlbazin_read_name(region.data(), region.size(), 65536, answer.data(), answer.size());

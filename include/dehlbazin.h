@@ -3,7 +3,9 @@
  * docs/SPEC.md says what the calls mean, docs/ABI.md how to use them, docs/LAYOUT.md what stands in the region.
  *
  * Every call takes the region first, then its own arguments, then the answer record, each run of bytes as a pointer and a
- * length. It returns a number: DEHLBAZIN_DONE, or the reason of a refusal. A refused call changes no byte of the region.
+ * length. It returns a number: DEHLBAZIN_DONE, or the reason of a refusal. A refused call changes no byte of the region. Two
+ * numbers are neither: with DEHLBAZIN_NO_COMMITTER and DEHLBAZIN_USED_UP dehlbazin_commit has stopped on its way, and what it
+ * wrote until then stays.
  *
  * The record has DEHLBAZIN_ANSWER_SIZE bytes: 16 places of 8, big-endian, which dehlbazin_place reads. A call that is given
  * a record of that size fills all of it, with 0 in each place that it does not use. A call that is given any other size
@@ -28,10 +30,10 @@
 #include <stdint.h>
 
 /* ---- the version of this interface: of this header and of the archive's entries. Each part is below 1000, so that a later
- * version is a greater number: 0.2.0 is 2000, and 1.2.3 would be 1002003. #if can test it. */
+ * version is a greater number: 0.3.0 is 3000, and 1.2.3 would be 1002003. #if can test it. */
 
 #define DEHLBAZIN_VERSION_MAJOR 0
-#define DEHLBAZIN_VERSION_MINOR 2
+#define DEHLBAZIN_VERSION_MINOR 3
 #define DEHLBAZIN_VERSION_PATCH 0
 #define DEHLBAZIN_VERSION                                                                                                    \
     (DEHLBAZIN_VERSION_MAJOR * 1000000 + DEHLBAZIN_VERSION_MINOR * 1000 + DEHLBAZIN_VERSION_PATCH)
@@ -46,7 +48,7 @@
 #define DEHLBAZIN_ANSWER_SIZE 128
 
 /* ---- the numbers that calls return. 4 to 14 are given by prepare alone, and 5 by nothing: no list comes to more than 160
- * rows. 16 and 17 belong to commit, which is not here yet. */
+ * rows. 16 and 17 are given by commit alone, which has then stopped between two writes: they are no refusals. */
 
 #define DEHLBAZIN_DONE 0
 #define DEHLBAZIN_BAD_REGION 1                   /* the region is not a good one, or the record has the wrong size */
@@ -145,6 +147,8 @@
 
 #define DEHLBAZIN_PREPARE_ROWS 0
 
+#define DEHLBAZIN_COMMIT_WRITES 0
+
 #define DEHLBAZIN_ROLLBACK_ROWS 0
 
 #define DEHLBAZIN_READ_NAME_KIND 0
@@ -196,6 +200,12 @@
 #define DEHLBAZIN_REFERENCE_OUT_OF_DATE_ACTUAL_NUMBER 4
 
 #define DEHLBAZIN_DELETE_MUST_NOT_EXIST_NAME 0
+
+/* ---- places of the answer record, by the number of a stop of commit: how many writes were made before it */
+
+#define DEHLBAZIN_NO_COMMITTER_WRITES 0
+
+#define DEHLBAZIN_USED_UP_WRITES 0
 
 /* What stands at place i of an answer record, which has DEHLBAZIN_ANSWER_SIZE bytes. The last place is 15: past it every i
  * gives 0, and nothing is read. */
@@ -292,6 +302,18 @@ uint32_t dehlbazin_unlock_packed(uint8_t *region, size_t region_len, uint8_t *an
  * places: 0 how many rows, 0 to 160. */
 uint32_t dehlbazin_prepare(uint8_t *region, size_t region_len, const uint8_t *list, size_t list_len, uint64_t mode,
                            uint8_t *answer, size_t answer_len);
+
+/* Commits the prepared transaction: makes its writes in their fixed order (docs/SPEC.md, the writes of commit), all of them or
+ * the first ones, frees its locks and forgets it. Foreign locks stay. So a transaction is committed once, stopped or not: what
+ * is still wanted after a stop is prepared anew. Wherever it stops, a name in the rows that prepare made reads its old value or
+ * its new one, never a third, and every other name reads as before.
+ * committer: 1 to 65535, who stands in the log lines; 0 says that there is none, which does where no line is due.
+ * allowance: how many writes may be made at most. Every number is one; UINT64_MAX is always enough.
+ * refused, and the transaction stays prepared: 15 nothing is prepared; 2 the committer is above 65535.
+ * stopped before a write, in this order: 17 the allowance is used up; 16 the write is a log line, and there is no committer.
+ * places: 0 how many writes were made, of 16 and 17 too. */
+uint32_t dehlbazin_commit(uint8_t *region, size_t region_len, uint64_t committer, uint64_t allowance, uint8_t *answer,
+                          size_t answer_len);
 
 /* Gives up the prepared transaction and frees its locks; foreign locks stay. Done too where nothing is prepared.
  * refused: nothing more.

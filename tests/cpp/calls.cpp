@@ -1,5 +1,6 @@
 #include "calls.h"
 
+#include "commit.h"
 #include "edits.h"
 #include "image.h"
 #include "prepare.h"
@@ -30,8 +31,8 @@ static std::string in_digits(std::string_view bytes)
 std::string describe(const Call &call)
 {
     static const char *const names[] = {"start", "add_name", "name_bytes", "load_loose", "load_packed", "lock_name",
-                                        "unlock_name", "lock_packed", "unlock_packed", "prepare", "rollback", "read_name",
-                                        "read_line", "read_row"};
+                                        "unlock_name", "lock_packed", "unlock_packed", "prepare", "commit", "rollback",
+                                        "read_name", "read_line", "read_row"};
     std::string text = names[size_t(call.op)];
     if (call.op == Op::prepare)
         return text + " '" + in_digits(call.bytes) + "' in mode " + std::to_string(call.a);
@@ -40,7 +41,7 @@ std::string describe(const Call &call)
     size_t numbers = 1;
     if (call.op == Op::load_loose || call.op == Op::load_packed)
         numbers = 3;
-    else if (call.op == Op::read_line)
+    else if (call.op == Op::read_line || call.op == Op::commit)
         numbers = 2;
     else if (call.op == Op::lock_packed || call.op == Op::unlock_packed || call.op == Op::rollback)
         numbers = 0;
@@ -104,14 +105,14 @@ static Answer turn(uint8_t &lock, uint8_t from, uint8_t to)
 static Answer rollback(Store &store)
 {
     size_t rows = store.rows.size();
-    for (Entry &entry : store.entries)
-        if (entry.lock == OURS)
-            entry.lock = FREE;
-    if (store.packed_lock == OURS)
-        store.packed_lock = FREE;
-    store.mode = 0;
-    store.rows.clear();
+    forget_transaction(store);
     return answer(0, {rows});
+}
+
+static Answer read_name(const Entry &entry)
+{
+    Value value = reading(entry);
+    return answer(0, {value.kind, value.number});
 }
 
 static Answer read_line(const Store &store, uint64_t name, uint64_t place)
@@ -175,12 +176,12 @@ Answer answer_of(Store &store, const Call &call)
         return turn(store.packed_lock, FOREIGN, FREE);
     case Op::prepare:
         return prepare(store, call.bytes, call.a);
+    case Op::commit:
+        return commit(store, call.a, call.b);
     case Op::rollback:
         return rollback(store);
-    case Op::read_name: {
-        Value value = reading(store.entries[call.a]);
-        return answer(0, {value.kind, value.number});
-    }
+    case Op::read_name:
+        return read_name(store.entries[call.a]);
     case Op::read_line:
         return read_line(store, call.a, call.b);
     case Op::read_row:

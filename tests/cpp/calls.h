@@ -1,4 +1,4 @@
-// The fourteen calls on a store, from docs/SPEC.md: the number and the places that each gives, and what it does to the store.
+// The fifteen calls on a store, from docs/SPEC.md: the number and the places that each gives, and what it does to the store.
 #pragma once
 
 #include "store.h"
@@ -16,11 +16,13 @@ enum class Op {
     lock_packed,
     unlock_packed,
     prepare,
+    commit,
     rollback,
     read_name,
     read_line,
     read_row,
 };
+constexpr size_t OPS = size_t(Op::read_row) + 1;
 
 // A call: its bytes, if it takes any, and its numbers in order.
 struct Call {
@@ -42,6 +44,7 @@ inline Call unlock_name(uint64_t name) { return {Op::unlock_name, {}, name}; }
 inline Call lock_packed() { return {Op::lock_packed, {}}; }
 inline Call unlock_packed() { return {Op::unlock_packed, {}}; }
 inline Call prepare(std::string_view list, uint64_t mode) { return {Op::prepare, std::string(list), mode}; }
+inline Call commit(uint64_t committer, uint64_t allowance) { return {Op::commit, {}, committer, allowance}; }
 inline Call rollback() { return {Op::rollback, {}}; }
 inline Call read_name(uint64_t name) { return {Op::read_name, {}, name}; }
 inline Call read_line(uint64_t name, uint64_t place) { return {Op::read_line, {}, name, place}; }
@@ -56,5 +59,6 @@ struct Answer {
 Answer answer(uint32_t number, const std::vector<uint64_t> &places = {});
 inline bool operator==(const Answer &x, const Answer &y) { return x.number == y.number && x.places == y.places; }
 
-// What a call on a good store gives. The store is changed exactly if the number is 0 and the call changes something.
+// What a call on a good store gives. Only a call that gives 0, 16 or 17 changes the store.
 Answer answer_of(Store &store, const Call &call);
+inline bool is_refusal(uint32_t number) { return number != 0 && number != 16 && number != 17; }

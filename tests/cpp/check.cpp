@@ -13,15 +13,18 @@ static std::atomic<size_t> good{0};
 static std::mutex failures;
 static size_t bad = 0;
 static std::map<std::string, size_t> bad_at;
+static thread_local std::string subject;
 
 void passed(size_t checks) { good += checks; }
+
+void about(const std::string &what) { subject = what; }
 
 void failed(const At &at, const std::string &what)
 {
     const char *slash = std::strrchr(at.file, '/');
     std::string place = std::string(slash ? slash + 1 : at.file) + ":" + std::to_string(at.line);
     std::string text;
-    for (unsigned char c : what)
+    for (unsigned char c : subject.empty() ? what : subject + ": " + what)
         if (c >= ' ' && c <= '~')
             text += char(c);
         else {

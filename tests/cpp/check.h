@@ -15,6 +15,9 @@ struct At {
 void passed(size_t checks = 1);
 void failed(const At &at, const std::string &what);
 
+// What this thread's checks are about from now on. It is printed with each that fails.
+void about(const std::string &what);
+
 inline void check(bool ok, const std::string &what, AT_CALLER)
 {
     if (ok)

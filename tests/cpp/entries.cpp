@@ -68,6 +68,8 @@ static uint32_t make(const Call &call, uint8_t *region, size_t region_len, uint8
         return lend(call.bytes, [&](const uint8_t *list, size_t list_len) {
             return dehlbazin_prepare(region, region_len, list, list_len, call.a, answer, answer_len);
         });
+    case Op::commit:
+        return dehlbazin_commit(region, region_len, call.a, call.b, answer, answer_len);
     case Op::rollback:
         return dehlbazin_rollback(region, region_len, answer, answer_len);
     case Op::read_name:

@@ -1,4 +1,5 @@
-/* The header in C: a call, its number and a place of its answer; and an edit list, built by the header's constants. */
+/* The header in C: a call, its number and a place of its answer; an edit list, built by the header's constants; and a list that is
+ * prepared and committed. */
 #include "dehlbazin.h"
 
 #include <string.h>
@@ -47,4 +48,17 @@ size_t list_from_c(uint8_t *list)
     edit[DEHLBAZIN_EDIT_AT_EXPECTED] = DEHLBAZIN_EXPECTED_MUST_EXIST;
     put(edit + DEHLBAZIN_EDIT_AT_NAME, 3, 2);
     return size;
+}
+
+/* Commits a list with committer 258 and room for every write. Gives commit's number, or 99 where the list is not prepared. */
+uint32_t move_from_c(uint8_t *region, size_t region_len, const uint8_t *list, size_t list_len, uint64_t *writes)
+{
+    uint8_t answer[DEHLBAZIN_ANSWER_SIZE];
+    uint32_t number =
+        dehlbazin_prepare(region, region_len, list, list_len, DEHLBAZIN_MODE_DELETIONS, answer, sizeof answer);
+    if (number != DEHLBAZIN_DONE)
+        return 99;
+    number = dehlbazin_commit(region, region_len, 0x0102, UINT64_MAX, answer, sizeof answer);
+    *writes = dehlbazin_place(answer, DEHLBAZIN_COMMIT_WRITES);
+    return number;
 }

@@ -1,4 +1,5 @@
-// The checks of the foreign interface. With an argument N, only one bit of each N is turned over where all bits are.
+// The checks of the foreign interface. With an argument N, only one bit of each N is turned over where all bits are. With two more,
+// so many random sequences are made, with another seed.
 #include "check.h"
 #include "entries.h"
 #include "tests.h"
@@ -8,9 +9,12 @@
 #include <cstdlib>
 #include <functional>
 
+static const unsigned long SEQUENCES = 20000, SEED = 1;
+
 static void part(const char *name, const std::function<void()> &test)
 {
     watch_for_crashes(name);
+    about("");
     auto begin = std::chrono::steady_clock::now();
     test();
     std::chrono::duration<double> seconds = std::chrono::steady_clock::now() - begin;
@@ -20,9 +24,11 @@ static void part(const char *name, const std::function<void()> &test)
 int main(int count, char **words)
 {
     std::setvbuf(stdout, nullptr, _IOLBF, 0);
-    unsigned long every = count > 1 ? std::strtoul(words[1], nullptr, 10) : 1;
-    if (count > 2 || every == 0) {
-        std::fprintf(stderr, "usage: %s [N], to turn over one bit of each N only\n", words[0]);
+    auto number = [&](int i, unsigned long usual) { return count > i ? std::strtoul(words[i], nullptr, 10) : usual; };
+    unsigned long every = number(1, 1), sequences = number(2, SEQUENCES), seed = number(3, SEED);
+    if (count > 4 || every == 0) {
+        std::fprintf(stderr, "usage: %s [N [SEQUENCES [SEED]]], to turn over one bit of each N, and to make so many sequences\n",
+                     words[0]);
         return 2;
     }
     part("header", test_header);
@@ -38,8 +44,13 @@ int main(int count, char **words)
     part("prepare_turns", test_prepare_turns);
     part("prepare_kept", test_prepare_kept);
     part("prepare_room", test_prepare_room);
-    part("prepare_marked", test_prepare_marked);
+    part("commit_writes", test_commit_writes);
+    part("commit_lines", test_commit_lines);
+    part("commit_stops", test_commit_stops);
+    part("commit_everywhere", test_commit_everywhere);
+    part("marked", test_marked);
     part("random", test_random);
+    part("sequences", [=] { test_sequences(sequences, seed); });
     part("flips", [=] { test_flips(every); });
     return closing() ? 0 : 1;
 }

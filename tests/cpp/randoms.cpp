@@ -155,6 +155,11 @@ Store ready_store(Dice &dice)
 {
     const size_t some_names[] = {1, 2, 5, 9, 14, 20, 60, 256}, some_lines[] = {0, 0, 3, 20, 1016, 1020, 1022, 1023, 1024};
     size_t names = dice.one_of(some_names), lines = dice.one_of(some_lines);
+    return ready_store(dice, names, lines);
+}
+
+Store ready_store(Dice &dice, size_t names, size_t lines)
+{
     Store s = random_store(dice, names, lines, false);
     bool held = dice.once_in(3);
     for (Entry &entry : s.entries) {

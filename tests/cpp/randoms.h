@@ -17,9 +17,10 @@ std::string some_name(Dice &dice);
 // A good store, with a transaction or without.
 Store random_store(Dice &dice, size_t names, size_t lines, bool with_rows);
 
-// A good store on which many lists are prepared: few locks are foreign, many names are links, and the log is short, or full, or
-// nearly so. Nothing is prepared.
+// A good store on which many lists are prepared: few locks are foreign, and many names are links. Nothing is prepared. It is of
+// some size, with a log that is short, or full, or nearly so; or it has this many names and lines.
 Store ready_store(Dice &dice);
+Store ready_store(Dice &dice, size_t names, size_t lines);
 
 // An edit list for a store. Most are well formed and name each name once; the others have a byte changed, or a few more or fewer.
 std::string random_list(Dice &dice, const Store &store);

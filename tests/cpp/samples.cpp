@@ -108,6 +108,18 @@ Edit log_only(Edit edit)
     return edit;
 }
 
+Edit forced(Edit edit)
+{
+    edit.force = 1;
+    return edit;
+}
+
+Edit with_message(Edit edit, uint16_t message)
+{
+    edit.message = message;
+    return edit;
+}
+
 Edit expecting(Edit edit, uint8_t expected, const Value &target)
 {
     edit.expected = expected;

@@ -41,7 +41,9 @@ Row with_leaf(Row row, uint64_t leaf_previous);
 Edit updating(uint16_t name, const Value &target);
 Edit deleting(uint16_t name);
 
-// The same edit through the name's link, of the log only, and with something expected.
+// The same edit through the name's link, of the log only, with force, with a message, and with something expected.
 Edit through(Edit edit);
 Edit log_only(Edit edit);
+Edit forced(Edit edit);
+Edit with_message(Edit edit, uint16_t message);
 Edit expecting(Edit edit, uint8_t expected, const Value &target = {});

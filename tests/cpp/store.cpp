@@ -98,10 +98,15 @@ static std::string_view name_of(const Store &store, const Row &row)
 // What was there when the row was prepared.
 static Value existing(const Row &row) { return row.expected == MUST_EXIST_AND_MATCH ? row.expected_target : Value{}; }
 
+bool is_direct(const Store &store, const Row &row)
+{
+    return store.mode == 3 && row.kind == UPDATE && row.new_target.kind == OBJECT && is_packable(name_of(store, row));
+}
+
 bool keeps_lock(const Store &store, const Row &row)
 {
-    bool direct = store.mode == 3 && row.new_target.kind == OBJECT && is_packable(name_of(store, row));
-    return row.kind == DELETE || direct || row.new_target.kind == LINK || row.new_target != existing(row);
+    bool changes = row.new_target.kind == LINK || row.new_target != existing(row);
+    return row.kind == DELETE || is_direct(store, row) || changes;
 }
 
 bool counts(const Store &store, const Row &row) { return !row.log_only && is_packable(name_of(store, row)); }
@@ -118,26 +123,44 @@ bool opens_packed(const Store &store)
     return counting && ((store.mode >= 2 && counting_update) || packed);
 }
 
-static bool is_logged(const Store &store, const Row &row)
+bool has_lines(const Store &store, uint16_t name)
 {
-    bool lines = std::any_of(store.lines.begin(), store.lines.end(), [&](const Line &l) { return l.name == row.name; });
-    return store.setting != 0 && (lines || row.force || logs_by_itself(store.setting, name_of(store, row)));
+    return std::any_of(store.lines.begin(), store.lines.end(), [=](const Line &line) { return line.name == name; });
 }
 
-static bool has_move(const Row &row)
+static bool is_logged(const Store &store, const Row &row)
+{
+    bool asked = row.force || logs_by_itself(store.setting, name_of(store, row));
+    return store.setting != 0 && (asked || has_lines(store, row.name));
+}
+
+// What a line of this row would tell, whether its name is logged or not.
+static std::optional<Move> move_of(const Row &row)
 {
     if (row.kind == DELETE)
-        return false;
-    if (row.new_target.kind == LINK)
-        return row.expected == EXISTING_MUST_MATCH && row.expected_target.kind == OBJECT;
+        return {};
+    if (row.new_target.kind == LINK) {
+        if (row.expected != EXISTING_MUST_MATCH || row.expected_target.kind != OBJECT)
+            return {};
+        return Move{0, row.expected_target.number};
+    }
     Value was = existing(row);
-    return (was.kind == OBJECT ? was.number : row.leaf_previous) != row.new_target.number;
+    Move move = {was.kind == OBJECT ? was.number : row.leaf_previous, row.new_target.number};
+    if (move.before == move.after)
+        return {};
+    return move;
+}
+
+std::optional<Move> due_line(const Store &store, const Row &row)
+{
+    std::optional<Move> move = move_of(row);
+    return move && is_logged(store, row) ? move : std::nullopt;
 }
 
 size_t due_lines(const Store &store)
 {
-    return std::count_if(store.rows.begin(), store.rows.end(),
-                         [&](const Row &row) { return has_move(row) && is_logged(store, row); });
+    return size_t(std::count_if(store.rows.begin(), store.rows.end(),
+                                [&](const Row &row) { return due_line(store, row).has_value(); }));
 }
 
 // The fields of one row, without the parent.
@@ -234,4 +257,12 @@ void take_locks(Store &store)
         store.packed_lock = OURS;
     else if (store.packed_lock == OURS)
         store.packed_lock = FREE;
+}
+
+// Without rows no lock is kept.
+void forget_transaction(Store &store)
+{
+    store.mode = 0;
+    store.rows.clear();
+    take_locks(store);
 }

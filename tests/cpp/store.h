@@ -3,6 +3,7 @@
 
 #include <cstddef>
 #include <cstdint>
+#include <optional>
 #include <string>
 #include <string_view>
 #include <vector>
@@ -75,10 +76,18 @@ bool is_packable(std::string_view name);
 // What a name reads.
 Value reading(const Entry &entry);
 
-// R2: the row counts; the rows open the packed table. R4: the row keeps its lock. How many lines the rows are due.
+// R2: the row counts; the rows open the packed table. R4: the row is direct; it keeps its lock.
 bool counts(const Store &store, const Row &row);
 bool opens_packed(const Store &store);
+bool is_direct(const Store &store, const Row &row);
 bool keeps_lock(const Store &store, const Row &row);
+
+// The objects of the log line that a row is due, if it is due one, and how many of the rows are due one.
+struct Move {
+    uint64_t before, after;
+};
+bool has_lines(const Store &store, uint16_t name);
+std::optional<Move> due_line(const Store &store, const Row &row);
 size_t due_lines(const Store &store);
 
 // The store obeys every rule.
@@ -86,3 +95,6 @@ bool is_good(const Store &store);
 
 // Makes ours the locks that the rows keep, and frees the others that were ours.
 void take_locks(Store &store);
+
+// Forgets the transaction: nothing is prepared, and the locks that were ours are free.
+void forget_transaction(Store &store);

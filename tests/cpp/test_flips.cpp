@@ -2,14 +2,13 @@
 // and a call on those must do what it does on our own store. What our decoder accepts, our encoder writes as the same bytes again.
 #include "entries.h"
 #include "samples.h"
+#include "share.h"
 #include "tests.h"
 #include "world.h"
 
-#include <algorithm>
-#include <thread>
-
-// Every call but start tests the region, so they take turns. 15 of them, an odd number, so that each meets every bit of a byte:
-// prepare has two lists, one for names without a packed value, and one that meets the packed table's lock.
+// Every call but start tests the region, so they take turns. 17 of them, an odd number, so that each meets every bit of a byte:
+// prepare has two lists, one for names without a packed value, and one that meets the packed table's lock; commit makes all writes,
+// and those before the third.
 static std::vector<Call> calls()
 {
     using namespace call;
@@ -17,7 +16,7 @@ static std::vector<Call> calls()
         read_row(1000000), read_row(1), rollback(), read_name(1), name_bytes(4), load_loose(1, OBJECT, 6),
         load_packed(1, NONE, 0), lock_name(0), unlock_name(2), lock_packed(), unlock_packed(), read_line(3, 0),
         add_name("refs/heads/new"), prepare(write_list({updating(0, object(6)), deleting(3)}), 3),
-        prepare(write_list({through(updating(0, object(6)))}), 1),
+        prepare(write_list({through(updating(0, object(6)))}), 1), commit(258, ~uint64_t(0)), commit(1, 2),
     };
 }
 
@@ -83,16 +82,11 @@ static void flip_groups(const Bytes &bytes, size_t first, size_t end, size_t siz
     }
 }
 
-// The groups are shared out among the machine's processors. Which bits are turned over does not depend on how many there are.
+// Which bits are turned over does not depend on how many processors there are.
 static void flip_share(const Bytes &bytes, size_t size)
 {
     size_t groups = (REGION * 8 - 1) / size + 1;
-    size_t workers = std::max(1u, std::thread::hardware_concurrency()), share = groups / workers + 1;
-    std::vector<std::thread> threads;
-    for (size_t i = 0; i < workers; i++)
-        threads.emplace_back([&, i] { flip_groups(bytes, i * share, std::min((i + 1) * share, groups), size); });
-    for (std::thread &thread : threads)
-        thread.join();
+    share_out(groups, [&](size_t first, size_t end) { flip_groups(bytes, first, end, size); });
 }
 
 // Few bits may all be of one kind, the ones that must not be turned over. So that the region is taken for good where it is, and

@@ -10,11 +10,12 @@
 
 extern "C" uint64_t first_name_from_c(uint8_t *region, size_t region_len, uint32_t *number);
 extern "C" size_t list_from_c(uint8_t *list);
+extern "C" uint32_t move_from_c(uint8_t *region, size_t region_len, const uint8_t *list, size_t list_len, uint64_t *writes);
 
-#if DEHLBAZIN_VERSION != 2000
-#error "the version is not 0.2.0, or #if cannot read it"
+#if DEHLBAZIN_VERSION != 3000
+#error "the version is not 0.3.0, or #if cannot read it"
 #endif
-static_assert(DEHLBAZIN_VERSION_MAJOR == 0 && DEHLBAZIN_VERSION_MINOR == 2 && DEHLBAZIN_VERSION_PATCH == 0);
+static_assert(DEHLBAZIN_VERSION_MAJOR == 0 && DEHLBAZIN_VERSION_MINOR == 3 && DEHLBAZIN_VERSION_PATCH == 0);
 static_assert(DEHLBAZIN_LAYOUT_VERSION == 1);
 static_assert(DEHLBAZIN_REGION_SIZE == REGION && DEHLBAZIN_ANSWER_SIZE == 16 * 8);
 
@@ -166,6 +167,44 @@ static void test_prepare_places()
     check(dehlbazin_place(answer.data(), DEHLBAZIN_MULTIPLE_EDITS_NAME) == 6, "place 0 of 6");
 }
 
+// The places of commit, and of its stops: the writes made.
+static void test_commit_places()
+{
+    auto makes = [](uint64_t committer, uint64_t allowance, uint32_t number, size_t place, uint64_t writes) {
+        Bytes region = encode(prepared()), answer(DEHLBAZIN_ANSWER_SIZE);
+        uint32_t given =
+            dehlbazin_commit(region.data(), region.size(), committer, allowance, answer.data(), answer.size());
+        check(given == number, "commit gives " + std::to_string(given) + " instead of " + std::to_string(number));
+        check(dehlbazin_place(answer.data(), place) == writes, "the place of the writes of " + std::to_string(number));
+    };
+    makes(1, 5, DEHLBAZIN_DONE, DEHLBAZIN_COMMIT_WRITES, 5);
+    makes(1, 4, DEHLBAZIN_USED_UP, DEHLBAZIN_USED_UP_WRITES, 4);
+
+    // A write, and then a line.
+    Store store = plain(2);
+    store.entries[0].name = "refs/tags/0";
+    answer_of(store, call::prepare(write_list({updating(0, object(1)), updating(1, object(1))}), 1));
+    Bytes region = encode(store), answer(DEHLBAZIN_ANSWER_SIZE);
+    uint32_t number = dehlbazin_commit(region.data(), region.size(), 0, ~uint64_t(0), answer.data(), answer.size());
+    check(number == DEHLBAZIN_NO_COMMITTER, "commit without a committer gives " + std::to_string(number));
+    check(dehlbazin_place(answer.data(), DEHLBAZIN_NO_COMMITTER_WRITES) == 1, "the place of the writes of 16");
+}
+
+// A list that C prepares and commits.
+static void test_move_from_c()
+{
+    const std::string list = write_list({through(updating(0, object(7)))});
+    Lent region(encode(marked()));
+    const uint8_t *bytes = reinterpret_cast<const uint8_t *>(list.data());
+    uint64_t writes = 99;
+    check(move_from_c(region.data(), region.size(), bytes, list.size(), &writes) == DEHLBAZIN_DONE, "a commit from C");
+    check(writes == 3, "the writes of a commit from C");
+    Store after = marked();
+    after.entries[1].loose = object(7);
+    after.lines = {{0, 0, 7, 0x0102, 0}, {1, 0, 7, 0x0102, 0}};
+    check(region.holds(encode(after)), "the region after a commit from C");
+}
+
 // A list that C builds by the header's constants is the one that our own writer writes.
 static void test_list_from_c()
 {
@@ -184,7 +223,9 @@ void test_header()
     test_layout_version();
     test_places();
     test_prepare_places();
+    test_commit_places();
     test_list_from_c();
+    test_move_from_c();
 
     Lent region(encode(Store{}));
     uint32_t number = 99;

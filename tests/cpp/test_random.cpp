@@ -1,101 +1,15 @@
-// Random calls, random edit lists, and random stores with random bytes changed.
+// Long walks of random calls, random edit lists, and random stores with random bytes changed.
 #include "preparing.h"
-#include "randoms.h"
+#include "random_calls.h"
+#include "tally.h"
 #include "tests.h"
 
 #include <algorithm>
-#include <cstdio>
-
-// ---- random calls
-
-// Mostly a list in a good mode.
-static Call random_prepare(Dice &dice, const Store &s)
-{
-    uint64_t mode = dice.once_in(20) ? number_near(dice, 4) : 1 + dice.below(3);
-    return call::prepare(random_list(dice, s), mode);
-}
-
-// A call that makes a transaction, reads it, or gives it up.
-static Call random_transaction_call(Dice &dice, const Store &s)
-{
-    if (s.mode == 0 || dice.once_in(10))
-        return random_prepare(dice, s);
-    return dice.once_in(3) ? call::rollback() : call::read_row(number_near(dice, s.rows.size()));
-}
-
-static Call random_call(Dice &dice, const Store &s)
-{
-    uint64_t names = s.entries.size();
-    if (dice.once_in(5))
-        return random_transaction_call(dice, s);
-    switch (dice.below(22)) {
-    case 0:
-        return dice.once_in(4) ? call::start(number_near(dice, 3)) : call::start(3 + dice.below(300));
-    case 1:
-    case 2:
-    case 3:
-        return call::add_name(dice.once_in(2) ? good_name(dice) : some_name(dice));
-    case 4:
-        return names > 0 ? call::add_name(s.entries[dice.below(names)].name) : call::add_name("");
-    case 5:
-        return call::name_bytes(number_near(dice, names));
-    case 6:
-    case 7:
-    case 8: {
-        uint64_t kind = number_near(dice, 4);
-        uint64_t number = kind == LINK ? number_near(dice, names) : dice.once_in(3) ? 0 : object_number(dice);
-        return call::load_loose(number_near(dice, names), kind, number);
-    }
-    case 9:
-    case 10: {
-        uint64_t kind = number_near(dice, 2), number = dice.once_in(3) ? 0 : object_number(dice);
-        return call::load_packed(number_near(dice, names), kind, number);
-    }
-    case 11:
-    case 12:
-        return call::lock_name(number_near(dice, names));
-    case 13:
-    case 14:
-        return call::unlock_name(number_near(dice, names));
-    case 15:
-        return call::lock_packed();
-    case 16:
-        return call::unlock_packed();
-    case 17:
-        return dice.once_in(20) ? call::rollback() : call::read_row(number_near(dice, s.rows.size()));
-    case 18:
-    case 19:
-        return call::read_name(number_near(dice, names));
-    case 20: {
-        uint64_t place = number_near(dice, 1 + s.lines.size() / (1 + names));
-        return call::read_line(number_near(dice, names), place);
-    }
-    default:
-        return call::read_row(number_near(dice, s.rows.size()));
-    }
-}
-
-// How often each number was given.
-struct Tally {
-    size_t given[23] = {};
-
-    // Prints it, and checks that each of these numbers was given.
-    void all_met(const char *what, const std::vector<size_t> &numbers) const
-    {
-        std::printf("%s gave", what);
-        for (size_t number = 0; number < std::size(given); number++)
-            if (given[number] > 0)
-                std::printf(" %zu: %zu", number, given[number]);
-        std::printf("\n");
-        for (size_t number : numbers)
-            check(given[number] > 0, std::string(what) + " never gave " + std::to_string(number));
-    }
-};
 
 // Two regions at a time, in turns: a call leaves nothing behind that the next one would see.
 static void test_walks()
 {
-    Tally calls, preparations;
+    Tally calls, preparations, commits;
     for (uint64_t walk = 0; walk < 60; walk++) {
         Dice dice(walk);
         auto begin = [&](bool with_rows) {
@@ -107,11 +21,13 @@ static void test_walks()
         for (int step = 0; step < 200; step++)
             for (World *world : {&first, &second}) {
                 const Call call = random_call(dice, world->store());
-                (call.op == Op::prepare ? preparations : calls).given[world->agrees(call).number]++;
+                Tally &tally = call.op == Op::prepare ? preparations : call.op == Op::commit ? commits : calls;
+                tally.given[world->agrees(call).number]++;
             }
     }
-    calls.all_met("random calls but prepare", {0, 2, 3, 15, 18, 19, 20, 21, 22});
+    calls.all_met("random calls but prepare and commit", {0, 2, 3, 15, 18, 19, 20, 21, 22});
     preparations.all_met("prepare among random calls", {0, 2, 3, 4, 6, 7, 8, 9, 10, 11, 12, 13, 14, 15});
+    commits.all_met("commit among random calls", {0, 2, 15, 16, 17});
 }
 
 // Lists on stores where many of them are prepared. The rows are read, and rolling back leaves the region from before.

@@ -20,6 +20,7 @@ static std::vector<Call> calls()
         load_packed(1, 1, 9), load_packed(9, 1, 9), load_packed(0, 1, 9),
         lock_name(0), lock_name(2), unlock_name(2), unlock_name(65536), lock_packed(), unlock_packed(), rollback(),
         prepare(list, 1), prepare(list, 4), prepare("", 1), prepare(write_list({}), 2), prepare(repeated, 3),
+        commit(1, 5), commit(0, 0), commit(65536, 1),
         read_name(1), read_name(65536), read_line(0, 1), read_line(0, 3), read_row(0), read_row(~uint64_t(0)),
     };
 }
@@ -153,6 +154,10 @@ static void test_alignment()
         Store after = busy();
         after.entries.push_back({"NEW", object(0x1122334455667788), 0, FREE});
         answer_of(after, call::prepare(list, 1));
+        check(encode(after) == Bytes(region, region + REGION), what);
+        check(dehlbazin_commit(region, REGION, 258, 9, record, ANSWER) == 0, what);
+        check(dehlbazin_place(record, 0) == 1, what);
+        answer_of(after, call::commit(258, 9));
         check(encode(after) == Bytes(region, region + REGION), what);
         check(std::all_of(room.data(), region, [](uint8_t b) { return b == 0x77; }), what);
         check(std::all_of(region + REGION, record, [](uint8_t b) { return b == 0x77; }), what);

@@ -2,6 +2,7 @@
 #pragma once
 
 #include <cstddef>
+#include <cstdint>
 
 void test_header();
 void test_sizes();
@@ -16,6 +17,11 @@ void test_prepare_splits();
 void test_prepare_turns();
 void test_prepare_kept();
 void test_prepare_room();
-void test_prepare_marked();
+void test_commit_writes();
+void test_commit_lines();
+void test_commit_stops();
+void test_commit_everywhere();
+void test_marked();
 void test_random();
+void test_sequences(size_t count, uint64_t seed);
 void test_flips(size_t every); // turns over one bit of each so many

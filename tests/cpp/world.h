@@ -12,19 +12,26 @@ public:
     explicit World(const Store &store);
     explicit World(uint8_t setting = 1) : World(Store{setting, {}, FREE, {}, 0, {}}) {}
 
-    // The call gives this number and these places, the others 0. A done call leaves the region of our own store after the
-    // same call; a refused one leaves every byte.
+    // The call gives this number and these places, the others 0. A done or stopped call leaves the region of our own store
+    // after the same call; a refused one leaves every byte.
     void gives(const Call &call, uint32_t number, const std::vector<uint64_t> &places = {}, AT_CALLER);
 
     // The call does what our own store does.
     Answer agrees(const Call &call, AT_CALLER);
 
     const Store &store() const { return own; }
+
+    // What the archive itself gave to the last call and left of the region, right or wrong. The next call begins with the bytes
+    // of our own store again, so that one failure makes no others.
+    uint32_t number() const { return given; }
+    uint64_t place(size_t i) const;
     const Lent &region() const { return lent; }
 
 private:
     Store own;
     Lent lent, record;
+    uint32_t given = 0;
+    bool is_wrong = false;
 };
 
 // What a region is taken for: a call that only reads, and always refuses, gives 22 if it is good and 1 if it is not.

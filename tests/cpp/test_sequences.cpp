@@ -1,0 +1,71 @@
+// Many short sequences of random calls, all fifteen of them, each on a region of its own. After each call all is compared.
+#include "random_calls.h"
+#include "share.h"
+#include "tally.h"
+#include "tests.h"
+#include "world.h"
+
+#include <cstdio>
+
+static const int STEPS = 12;
+
+// With fewer sequences than this, some numbers may not come at all.
+static const size_t ENOUGH = 10000;
+
+// What came in all sequences: how often each call was done, and which numbers were given, those of prepare and of commit apart.
+struct Met {
+    std::atomic<size_t> done[OPS] = {};
+    Tally calls, preparations, commits;
+
+    void add(Op op, uint32_t number)
+    {
+        Tally &tally = op == Op::prepare ? preparations : op == Op::commit ? commits : calls;
+        tally.given[number]++;
+        if (number == 0)
+            done[size_t(op)]++;
+    }
+
+    void all_met() const
+    {
+        calls.all_met("sequences, but for prepare and commit,", {0, 2, 3, 15, 18, 19, 20, 21, 22});
+        preparations.all_met("prepare in sequences", {0, 2, 3, 4, 6, 7, 8, 9, 10, 11, 12, 13, 14, 15});
+        commits.all_met("commit in sequences", {0, 2, 15, 16, 17});
+        for (size_t op = 0; op < OPS; op++)
+            check(done[op] > 100, describe({Op(op), {}}) + " is hardly ever done");
+    }
+};
+
+// A store of few names mostly, with a log that is short, or full, or nearly so.
+static Store beginning(Dice &dice)
+{
+    const size_t some_names[] = {1, 2, 3, 5, 8, 12, 16, 20}, some_lines[] = {0, 0, 1, 3, 9, 20, 1020, 1023, 1024};
+    size_t names = dice.once_in(200) ? 256 : dice.one_of(some_names), lines = dice.one_of(some_lines);
+    return ready_store(dice, names, lines);
+}
+
+// Some begin with start, whatever the region holds.
+static void play(Dice &dice, Met &met)
+{
+    World world(beginning(dice));
+    auto make = [&](const Call &call) { met.add(call.op, world.agrees(call).number); };
+    if (dice.once_in(4))
+        make(call::start(dice.below(3)));
+    for (int step = 0; step < STEPS; step++)
+        make(next_call(dice, world.store()));
+}
+
+// The sequence of a number is always the same, for one seed.
+void test_sequences(size_t count, uint64_t seed)
+{
+    std::printf("%zu sequences with seed %llu\n", count, static_cast<unsigned long long>(seed));
+    Met met;
+    share_out(count, [&](size_t first, size_t end) {
+        for (size_t number = first; number < end; number++) {
+            about("sequence " + std::to_string(number) + " of seed " + std::to_string(seed));
+            Dice dice(seed + number * 0x9E3779B97F4A7C15);
+            play(dice, met);
+        }
+    });
+    if (count >= ENOUGH)
+        met.all_met();
+}
