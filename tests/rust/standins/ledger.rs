@@ -59,7 +59,12 @@ pub fn last_lock() -> PathBuf {
     LEDGER.with_borrow(|ledger| ledger.last_lock.clone())
 }
 
-/// The writes that were made, and whether one was refused.
-pub fn close() -> (Vec<Write>, bool) {
-    LEDGER.with_borrow_mut(|ledger| (std::mem::take(&mut ledger.made), ledger.stopped))
+/// How many writes were made, and whether one was refused.
+pub fn count() -> (usize, bool) {
+    LEDGER.with_borrow(|ledger| (ledger.made.len(), ledger.stopped))
+}
+
+/// Takes the writes that were made out of the ledger.
+pub fn close() -> Vec<Write> {
+    LEDGER.with_borrow_mut(|ledger| ::std::mem::take(&mut ledger.made))
 }

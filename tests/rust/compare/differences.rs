@@ -1,0 +1,69 @@
+//! The known differences, as predicates written from docs/DIFFERENCES.md. Outside of them nothing may differ.
+
+use crate::answer::{Answer, Row};
+use crate::case::{Case, Edit, Loose, Target, packable};
+
+/// How far a case had come when the two sides differed.
+#[derive(Clone, Copy, PartialEq, Eq, PartialOrd, Ord, Debug)]
+pub enum Stage {
+    /// In what prepare answers, or in the rows.
+    Prepare,
+    /// In the locks that are kept.
+    Locks,
+    /// In how the transaction ended.
+    End,
+}
+
+/// The number of the difference that explains why the sides differ at a stage.
+pub fn explains(case: &Case, rust: &Answer, stage: Stage) -> Option<usize> {
+    let rows = rust.prepared.as_ref().map_or(&[][..], |prepared| &prepared.rows);
+    if stage > Stage::Prepare && rows.iter().any(|row| direct_and_unpackable(case, row)) {
+        return Some(1);
+    }
+    if case.edits.iter().any(|edit| found_by_partial_name(case, edit)) {
+        return Some(2);
+    }
+    if one_beneath_another(case) {
+        return Some(9);
+    }
+    None
+}
+
+/// 1: in mode 3 a row updates a name that cannot be packed to an object. A log-only row is of that kind only if nothing changes:
+/// then its lock is kept.
+fn direct_and_unpackable(case: &Case, row: &Row) -> bool {
+    let [name, kind, log_only, _, _, expected, expected_kind, expected_number, new_kind, new_number, ..] = *row;
+    let unchanged = expected == 3 && (expected_kind, expected_number) == (new_kind, new_number);
+    let update_to_object = kind == 1 && new_kind == 1;
+    case.mode == 3 && update_to_object && !packable(&case.store.names[name as usize]) && (log_only == 0 || unchanged)
+}
+
+/// 2: an edit with deref set leads to a name outside of `refs/` that has no loose value, and one of the names that it is
+/// short for is a link.
+fn found_by_partial_name(case: &Case, edit: &Edit) -> bool {
+    let store = &case.store;
+    let mut name = edit.name;
+    for _ in 0..5 {
+        match store.state.loose[name] {
+            Some(Loose::Value(Target::Link(next))) => name = next,
+            _ => break,
+        }
+    }
+    let short = &store.names[name];
+    let is_link = |full: String| {
+        let found = store.names.iter().position(|known| *known == full);
+        found.is_some_and(|found| matches!(store.state.loose[found], Some(Loose::Value(Target::Link(_)))))
+    };
+    let longer = ["refs/", "refs/tags/", "refs/heads/", "refs/remotes/"].map(|prefix| format!("{prefix}{short}"));
+    let remote_head = format!("refs/remotes/{short}/HEAD");
+    edit.deref
+        && !short.starts_with("refs/")
+        && store.state.loose[name].is_none()
+        && longer.into_iter().chain([remote_head]).any(is_link)
+}
+
+/// 9: of two names one lies beneath the other, so that one would have to be a file and a directory.
+fn one_beneath_another(case: &Case) -> bool {
+    let names = &case.store.names;
+    names.iter().any(|upper| names.iter().any(|lower| lower.strip_prefix(upper.as_str()).is_some_and(|rest| rest.starts_with('/'))))
+}

@@ -1,0 +1,71 @@
+//! What a run saw: how many cases, with which answers, and what differed.
+
+use crate::answer::Answer;
+use crate::case::Case;
+use crate::judge::{self, Care, Verdict};
+use crate::shrink;
+use crate::site::Site;
+use crate::text;
+use std::collections::BTreeMap;
+
+/// So many differences are shown in full.
+const SHOWN: u64 = 5;
+
+#[derive(Default)]
+pub struct Tally {
+    pub cases: u64,
+    pub stops: u64,
+    pub differ: u64,
+    known: BTreeMap<usize, u64>,
+    prepares: BTreeMap<u32, u64>,
+    ends: BTreeMap<u32, u64>,
+    most_rows: usize,
+    most_writes: usize,
+}
+
+impl Tally {
+    /// Compares the two sides on a case, counts it, and says so if they differ.
+    pub fn try_case(&mut self, site: &Site, case: &Case, care: Care) -> Answer {
+        let (rust, verdict) = judge::judge(site, case, care);
+        self.cases += 1;
+        *self.prepares.entry(rust.reply.number).or_default() += 1;
+        if let Some(prepared) = &rust.prepared {
+            *self.ends.entry(prepared.end.number).or_default() += 1;
+            self.most_rows = self.most_rows.max(prepared.rows.len());
+            self.most_writes = self.most_writes.max(prepared.steps.len());
+        }
+        self.count(site, case, verdict);
+        rust
+    }
+
+    /// The same, and then once more for every stop of the commit.
+    pub fn try_case_and_stops(&mut self, site: &Site, case: &Case) {
+        let rust = self.try_case(site, case, Care::Reads);
+        let Some(prepared) = rust.prepared else { return };
+        for (stopped, verdict) in judge::judge_stops(site, case, prepared.steps.len() as u64) {
+            self.stops += 1;
+            self.count(site, &stopped, verdict);
+        }
+    }
+
+    fn count(&mut self, site: &Site, case: &Case, verdict: Verdict) {
+        match verdict {
+            Verdict::Same => {}
+            Verdict::Known(number) => *self.known.entry(number).or_default() += 1,
+            Verdict::Differs(difference) => {
+                self.differ += 1;
+                if self.differ <= SHOWN {
+                    println!("DIFFERENT: {difference}\n{case:?}\nthe smallest case like it:");
+                    let (small, rust, difference) = shrink::smallest(site, case);
+                    println!("{}{difference}", text::block(0, "", &small, &rust));
+                }
+            }
+        }
+    }
+
+    pub fn report(&self, what: &str) {
+        println!("{what}: {} cases, {} stops run, {} differ", self.cases, self.stops, self.differ);
+        println!("  known differences {:?}; prepare's numbers {:?}", self.known, self.prepares);
+        println!("  the end's numbers {:?}; at most {} rows and {} writes", self.ends, self.most_rows, self.most_writes);
+    }
+}
