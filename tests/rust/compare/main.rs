@@ -5,31 +5,46 @@ mod archive;
 mod case;
 mod dice;
 mod differences;
+mod doubles;
 mod image;
 mod judge;
 mod original;
+mod product;
 mod random;
+mod runs;
 mod shrink;
+mod singles;
 mod site;
 mod tally;
 mod text;
 
 fn main() {
+    silence_expected_panics();
+    let site = site::Site::new().expect("a directory can be made");
+    let arguments: Vec<String> = std::env::args().skip(1).collect();
+    let words: Vec<&str> = arguments.iter().map(String::as_str).collect();
+    let number = |text: &str| text.parse().unwrap_or_else(|_| usage());
+    let fine = match words[..] {
+        ["all", count, seed] => runs::all(&site, number(count), number(seed)),
+        ["random", count, seed] => runs::random(&site, number(count), number(seed)).fine(),
+        ["singles", stride] => runs::singles(&site, number(stride)).fine(),
+        ["doubles", stride] => runs::doubles(&site, number(stride)).fine(),
+        _ => usage(),
+    };
+    drop(site);
+    std::process::exit(if fine { 0 } else { 1 });
+}
+
+fn usage() -> ! {
+    eprintln!("usage: compare all COUNT SEED | random COUNT SEED | singles STRIDE | doubles STRIDE");
+    std::process::exit(2)
+}
+
+/// The Rust's own panics are caught, and are answers. Others are bugs in this program, and are shown.
+fn silence_expected_panics() {
     std::panic::set_hook(Box::new(|info| {
         if !info.payload().downcast_ref::<&str>().is_some_and(|text| text.starts_with("BUG: ")) {
             eprintln!("{info}");
         }
     }));
-    let site = site::Site::new().expect("a directory can be made");
-    let arguments: Vec<String> = std::env::args().collect();
-    let count: u64 = arguments[1].parse().unwrap();
-    let seed: u64 = arguments[2].parse().unwrap();
-    let mut tally = tally::Tally::default();
-    let began = std::time::Instant::now();
-    for number in 0..count {
-        let mut dice = dice::Dice::new(seed.wrapping_mul(0x1_0000_0000).wrapping_add(number));
-        tally.try_case_and_stops(&site, &random::case(&mut dice));
-    }
-    tally.report("random");
-    println!("{:?}", began.elapsed());
 }

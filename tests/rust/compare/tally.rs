@@ -13,9 +13,9 @@ const SHOWN: u64 = 5;
 
 #[derive(Default)]
 pub struct Tally {
-    pub cases: u64,
-    pub stops: u64,
-    pub differ: u64,
+    cases: u64,
+    stops: u64,
+    differ: u64,
     known: BTreeMap<usize, u64>,
     prepares: BTreeMap<u32, u64>,
     ends: BTreeMap<u32, u64>,
@@ -63,8 +63,14 @@ impl Tally {
         }
     }
 
-    pub fn report(&self, what: &str) {
-        println!("{what}: {} cases, {} stops run, {} differ", self.cases, self.stops, self.differ);
+    /// Nothing differed that should not, and something was tried.
+    pub fn fine(&self) -> bool {
+        self.differ == 0 && self.cases > 0
+    }
+
+    pub fn report(&self, what: &str, began: std::time::Instant) {
+        let seconds = began.elapsed().as_secs();
+        println!("{what}: {} cases, {} stops run, {} differ, {seconds} s", self.cases, self.stops, self.differ);
         println!("  known differences {:?}; prepare's numbers {:?}", self.known, self.prepares);
         println!("  the end's numbers {:?}; at most {} rows and {} writes", self.ends, self.most_rows, self.most_writes);
     }

@@ -1,0 +1,50 @@
+//! The runs: which cases are tried, and how many.
+
+use crate::case::Case;
+use crate::dice::Dice;
+use crate::doubles;
+use crate::judge::Care;
+use crate::random;
+use crate::singles;
+use crate::site::Site;
+use crate::tally::Tally;
+use std::time::Instant;
+
+/// All of the exhaustive cases, and so many random ones.
+pub fn all(site: &Site, count: u64, seed: u64) -> bool {
+    let tallies = [singles(site, 1), doubles(site, 1), random(site, count, seed)];
+    tallies.iter().all(Tally::fine)
+}
+
+/// One of each `stride` cases with one edit.
+pub fn singles(site: &Site, stride: u64) -> Tally {
+    exhaustive(site, "one edit over two names", stride, singles::each)
+}
+
+/// One of each `stride` cases with two edits.
+pub fn doubles(site: &Site, stride: u64) -> Tally {
+    exhaustive(site, "two edits over three names", stride, doubles::each)
+}
+
+fn exhaustive(site: &Site, what: &str, stride: u64, each: fn(&mut dyn FnMut(&Case))) -> Tally {
+    let (mut tally, began, mut place) = (Tally::default(), Instant::now(), 0);
+    each(&mut |case| {
+        if place % stride == 0 {
+            tally.try_case(site, case, Care::Stops);
+        }
+        place += 1;
+    });
+    tally.report(what, began);
+    tally
+}
+
+/// Random cases, and every stop of each.
+pub fn random(site: &Site, count: u64, seed: u64) -> Tally {
+    let (mut tally, began) = (Tally::default(), Instant::now());
+    for number in 0..count {
+        let mut dice = Dice::new((seed << 32).wrapping_add(number));
+        tally.try_case_and_stops(site, &random::case(&mut dice));
+    }
+    tally.report(&format!("random, seed {seed}"), began);
+    tally
+}
