@@ -2,12 +2,14 @@
 
 mod answer;
 mod archive;
+mod build;
 mod case;
 mod dice;
 mod differences;
 mod doubles;
 mod image;
 mod judge;
+mod named;
 mod original;
 mod product;
 mod random;
@@ -26,6 +28,7 @@ fn main() {
     let number = |text: &str| text.parse().unwrap_or_else(|_| usage());
     let fine = match words[..] {
         ["all", count, seed] => runs::all(&site, number(count), number(seed)),
+        ["named"] => runs::named(&site).fine(),
         ["random", count, seed] => runs::random(&site, number(count), number(seed)).fine(),
         ["singles", stride] => runs::singles(&site, number(stride)).fine(),
         ["doubles", stride] => runs::doubles(&site, number(stride)).fine(),
@@ -36,7 +39,7 @@ fn main() {
 }
 
 fn usage() -> ! {
-    eprintln!("usage: compare all COUNT SEED | random COUNT SEED | singles STRIDE | doubles STRIDE");
+    eprintln!("usage: compare all COUNT SEED | named | random COUNT SEED | singles STRIDE | doubles STRIDE");
     std::process::exit(2)
 }
 

@@ -4,6 +4,7 @@ use crate::case::Case;
 use crate::dice::Dice;
 use crate::doubles;
 use crate::judge::Care;
+use crate::named;
 use crate::random;
 use crate::singles;
 use crate::site::Site;
@@ -12,7 +13,7 @@ use std::time::Instant;
 
 /// All of the exhaustive cases, and so many random ones.
 pub fn all(site: &Site, count: u64, seed: u64) -> bool {
-    let tallies = [singles(site, 1), doubles(site, 1), random(site, count, seed)];
+    let tallies = [named(site), singles(site, 1), doubles(site, 1), random(site, count, seed)];
     tallies.iter().all(Tally::fine)
 }
 
@@ -46,5 +47,20 @@ pub fn random(site: &Site, count: u64, seed: u64) -> Tally {
         tally.try_case_and_stops(site, &random::case(&mut dice));
     }
     tally.report(&format!("random, seed {seed}"), began);
+    tally
+}
+
+/// The cases by name, each with the number and the count that it says.
+pub fn named(site: &Site) -> Tally {
+    let (mut tally, began) = (Tally::default(), Instant::now());
+    for named in named::all() {
+        let rust = tally.try_case(site, &named.case, Care::Reads);
+        let count = rust.prepared.as_ref().map_or(0, |prepared| prepared.end.places[0]);
+        if (rust.reply.number, count) != (named.number, named.count) {
+            let seen = format!("prepare answers {}, the count is {count}", rust.reply.number);
+            tally.fail(&format!("{}: {seen}, not {} and {}", named.about, named.number, named.count));
+        }
+    }
+    tally.report("by name", began);
     tally
 }

@@ -63,6 +63,12 @@ impl Tally {
         }
     }
 
+    /// Counts something that is not as it should be, and says so.
+    pub fn fail(&mut self, text: &str) {
+        self.differ += 1;
+        println!("FAILED: {text}");
+    }
+
     /// Nothing differed that should not, and something was tried.
     pub fn fine(&self) -> bool {
         self.differ == 0 && self.cases > 0
