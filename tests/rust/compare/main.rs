@@ -13,7 +13,9 @@ mod named;
 mod original;
 mod product;
 mod random;
+mod record;
 mod runs;
+mod shown;
 mod shrink;
 mod singles;
 mod site;
@@ -28,8 +30,12 @@ fn main() {
     let number = |text: &str| text.parse().unwrap_or_else(|_| usage());
     let fine = match words[..] {
         ["all", count, seed] => runs::all(&site, number(count), number(seed)),
+        ["differences"] => runs::differences(&site).fine(),
         ["named"] => runs::named(&site).fine(),
         ["random", count, seed] => runs::random(&site, number(count), number(seed)).fine(),
+        ["share"] => runs::share(&site),
+        ["record", file] => record::write(&site, file),
+        ["check", file] => record::check(&site, file),
         ["singles", stride] => runs::singles(&site, number(stride)).fine(),
         ["doubles", stride] => runs::doubles(&site, number(stride)).fine(),
         _ => usage(),
@@ -39,14 +45,17 @@ fn main() {
 }
 
 fn usage() -> ! {
-    eprintln!("usage: compare all COUNT SEED | named | random COUNT SEED | singles STRIDE | doubles STRIDE");
+    eprintln!("usage: compare all COUNT SEED | share | record FILE | check FILE");
+    eprintln!("       compare differences | named | singles STRIDE | doubles STRIDE | random COUNT SEED");
     std::process::exit(2)
 }
 
 /// The Rust's own panics are caught, and are answers. Others are bugs in this program, and are shown.
 fn silence_expected_panics() {
     std::panic::set_hook(Box::new(|info| {
-        if !info.payload().downcast_ref::<&str>().is_some_and(|text| text.starts_with("BUG: ")) {
+        let payload = info.payload();
+        let text = payload.downcast_ref::<&str>().copied().or_else(|| payload.downcast_ref::<String>().map(String::as_str));
+        if !text.is_some_and(|text| text.starts_with("BUG: ")) {
             eprintln!("{info}");
         }
     }));

@@ -6,6 +6,7 @@ use crate::doubles;
 use crate::judge::Care;
 use crate::named;
 use crate::random;
+use crate::shown;
 use crate::singles;
 use crate::site::Site;
 use crate::tally::Tally;
@@ -13,8 +14,16 @@ use std::time::Instant;
 
 /// All of the exhaustive cases, and so many random ones.
 pub fn all(site: &Site, count: u64, seed: u64) -> bool {
-    let tallies = [named(site), singles(site, 1), doubles(site, 1), random(site, count, seed)];
+    let tallies = [differences(site), named(site), singles(site, 1), doubles(site, 1), random(site, count, seed)];
     tallies.iter().all(Tally::fine)
+}
+
+/// A share of everything. The last line is 'N passed, M failed'.
+pub fn share(site: &Site) -> bool {
+    let tallies = [differences(site), named(site), singles(site, 29), doubles(site, 29), random(site, 8_000, 1)];
+    let (passed, failed) = tallies.iter().fold((0, 0), |(passed, failed), tally| (passed + tally.passed(), failed + tally.failed()));
+    println!("{passed} passed, {failed} failed");
+    failed == 0 && tallies.iter().all(Tally::fine)
 }
 
 /// One of each `stride` cases with one edit.
@@ -62,5 +71,16 @@ pub fn named(site: &Site) -> Tally {
         }
     }
     tally.report("by name", began);
+    tally
+}
+
+/// The known differences, each by its smallest input.
+pub fn differences(site: &Site) -> Tally {
+    let (mut tally, began) = (Tally::default(), Instant::now());
+    for seen in shown::all(site) {
+        println!("difference {}: {}", seen.number, seen.text);
+        tally.check(seen.fine, &format!("difference {} is not as docs/DIFFERENCES.md says", seen.number));
+    }
+    tally.report("known differences", began);
     tally
 }

@@ -63,10 +63,27 @@ impl Tally {
         }
     }
 
+    /// Counts a check that is made beside the cases.
+    pub fn check(&mut self, fine: bool, text: &str) {
+        self.cases += 1;
+        if !fine {
+            self.fail(text);
+        }
+    }
+
     /// Counts something that is not as it should be, and says so.
     pub fn fail(&mut self, text: &str) {
         self.differ += 1;
         println!("FAILED: {text}");
+    }
+
+    /// How many runs were as they should be.
+    pub fn passed(&self) -> u64 {
+        self.cases + self.stops - self.differ
+    }
+
+    pub fn failed(&self) -> u64 {
+        self.differ
     }
 
     /// Nothing differed that should not, and something was tried.
