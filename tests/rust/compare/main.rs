@@ -33,7 +33,8 @@ fn main() {
         ["differences"] => runs::differences(&site).fine(),
         ["named"] => runs::named(&site).fine(),
         ["random", count, seed] => runs::random(&site, number(count), number(seed)).fine(),
-        ["share"] => runs::share(&site),
+        ["share", part] => runs::share(&site, number(part)),
+        ["quick"] => runs::quick(&site),
         ["record", file] => record::write(&site, file),
         ["check", file] => record::check(&site, file),
         ["singles", stride] => runs::singles(&site, number(stride)).fine(),
@@ -45,8 +46,8 @@ fn main() {
 }
 
 fn usage() -> ! {
-    eprintln!("usage: compare all COUNT SEED | share | record FILE | check FILE");
-    eprintln!("       compare differences | named | singles STRIDE | doubles STRIDE | random COUNT SEED");
+    eprintln!("usage: compare all COUNT SEED | share PART | record FILE | check FILE");
+    eprintln!("       compare differences | named | quick | singles STRIDE | doubles STRIDE | random COUNT SEED");
     std::process::exit(2)
 }
 

@@ -23,7 +23,7 @@ fn refused(about: &str, number: u32, case: Case) -> Named {
 }
 
 pub fn all() -> Vec<Named> {
-    [deletes(), deletes_of_links(), packed_deletes(), updates(), expectations(), locks(), meetings(), modes(), ends(), chains(), logs()]
+    [deletes(), deletes_of_links(), packed_deletes(), updates(), expectations(), locks(), meetings(), modes(), ends(), chains(), logs(), full_lists()]
         .into_iter()
         .flatten()
         .collect()
@@ -223,5 +223,19 @@ fn logs() -> Vec<Named> {
         done("setting 1 with logs: all", 14, logged(1)),
         done("setting 2 with logs: all", 14, logged(2)),
         done("setting 0 with logs: no line", 7, logged(0)),
+    ]
+}
+
+/// As many edits as a list takes, and as many rows as they can come to.
+fn full_lists() -> Vec<Named> {
+    let names: Vec<String> = (0..160).map(|number| format!("refs/heads/n{number}")).collect();
+    let names: Vec<&str> = names.iter().map(String::as_str).collect();
+    let edits = |case: Case| (0..32).fold(case, |case, name| case.edit(update(name, object(7)).deref()));
+    // Name n links to name n + 32, up to the last 32 names.
+    let linked = (0..128).fold(store(1, &names), |case, name| case.loose(name, link(name + 32)));
+    vec![
+        done("32 edits", 64, edits(store(1, &names[..32]))),
+        done("32 edits through four links each: 160 rows", 192, edits(linked.clone())),
+        done("the same in mode 3, stopped before the packed write", 160, edits(linked).mode(3).commit(1, 160)),
     ]
 }

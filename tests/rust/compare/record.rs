@@ -38,9 +38,9 @@ fn recorded(site: &Site) -> String {
     for named in named::all() {
         recorder.take(&named.about, &named.case, true);
     }
-    recorder.take_some(singles::each, 17, 1_400);
-    recorder.take_some(doubles::each, 61, 700);
-    recorder.take_random(1_000);
+    recorder.take_some(singles::each, 197);
+    recorder.take_some(doubles::each, 499);
+    recorder.take_random();
     format!("cases {}\n{}", recorder.blocks.len(), recorder.blocks.concat())
 }
 
@@ -64,23 +64,22 @@ impl Recorder<'_> {
         None
     }
 
-    /// Takes up to so many cases, looking at one of each `stride`.
-    fn take_some(&mut self, each: fn(&mut dyn FnMut(&Case)), stride: usize, most: usize) {
-        let (mut place, last) = (0, self.blocks.len() + most);
+    /// Takes cases, looking at one of each `stride`.
+    fn take_some(&mut self, each: fn(&mut dyn FnMut(&Case)), stride: usize) {
+        let mut place = 0;
         each(&mut |case| {
-            if place % stride == 0 && self.blocks.len() < last {
+            if place % stride == 0 {
                 self.take("", case, false);
             }
             place += 1;
         });
     }
 
-    /// Takes up to so many random cases, and stops of them.
-    fn take_random(&mut self, most: usize) {
-        let last = self.blocks.len() + most;
-        for seed in 0..20_000 {
+    /// Takes random cases, and stops of them: small ones, and a few large ones.
+    fn take_random(&mut self) {
+        for seed in 0..1_600 {
             let case = random::case(&mut Dice::new(seed));
-            if self.blocks.len() >= last || case.edits.len() > 12 && seed % 16 != 0 {
+            if case.store.names.len() > 6 && seed % 24 != 0 {
                 continue;
             }
             let Some(prepared) = self.take("", &case, false).and_then(|rust| rust.prepared) else { continue };

@@ -18,12 +18,18 @@ pub fn all(site: &Site, count: u64, seed: u64) -> bool {
     tallies.iter().all(Tally::fine)
 }
 
-/// A share of everything. The last line is 'N passed, M failed'.
-pub fn share(site: &Site) -> bool {
-    let tallies = [differences(site), named(site), singles(site, 29), doubles(site, 29), random(site, 8_000, 1)];
+/// A share of everything, or that part of it. The last line is 'N passed, M failed'.
+pub fn share(site: &Site, part: u64) -> bool {
+    let stride = 11 * part;
+    let tallies = [differences(site), named(site), singles(site, stride), doubles(site, stride), random(site, 20_000 / part, 1)];
     let (passed, failed) = tallies.iter().fold((0, 0), |(passed, failed), tally| (passed + tally.passed(), failed + tally.failed()));
     println!("{passed} passed, {failed} failed");
     failed == 0 && tallies.iter().all(Tally::fine)
+}
+
+/// As little as shows that a change to the Rust is noticed. It ends with the first part that notices it.
+pub fn quick(site: &Site) -> bool {
+    named(site).fine() && singles(site, 211).fine() && doubles(site, 211).fine() && random(site, 1_000, 1).fine()
 }
 
 /// One of each `stride` cases with one edit.
