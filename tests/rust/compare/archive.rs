@@ -1,23 +1,68 @@
 //! The archive, through its C interface. Regions and records are always of the right size here.
 
 use crate::answer::Reply;
-use crate::case::{Case, Edit, End, Line, Loose, Store, Target, Change, Expected};
+use crate::case::{Case, Change, Edit, End, Expected, Line, Loose, Store, Target};
 use crate::image;
 
 /// The interface of include/dehlbazin.h.
 mod entries {
     extern "C" {
         pub fn dehlbazin_start(region: *mut u8, len: usize, setting: u64, answer: *mut u8, answer_len: usize) -> u32;
-        pub fn dehlbazin_add_name(region: *mut u8, len: usize, name: *const u8, name_len: usize, answer: *mut u8, answer_len: usize) -> u32;
-        pub fn dehlbazin_load_loose(region: *mut u8, len: usize, name: u64, kind: u64, number: u64, answer: *mut u8, answer_len: usize) -> u32;
-        pub fn dehlbazin_load_packed(region: *mut u8, len: usize, name: u64, kind: u64, number: u64, answer: *mut u8, answer_len: usize) -> u32;
+        pub fn dehlbazin_add_name(
+            region: *mut u8,
+            len: usize,
+            name: *const u8,
+            name_len: usize,
+            answer: *mut u8,
+            answer_len: usize,
+        ) -> u32;
+        pub fn dehlbazin_load_loose(
+            region: *mut u8,
+            len: usize,
+            name: u64,
+            kind: u64,
+            number: u64,
+            answer: *mut u8,
+            answer_len: usize,
+        ) -> u32;
+        pub fn dehlbazin_load_packed(
+            region: *mut u8,
+            len: usize,
+            name: u64,
+            kind: u64,
+            number: u64,
+            answer: *mut u8,
+            answer_len: usize,
+        ) -> u32;
         pub fn dehlbazin_lock_name(region: *mut u8, len: usize, name: u64, answer: *mut u8, answer_len: usize) -> u32;
         pub fn dehlbazin_lock_packed(region: *mut u8, len: usize, answer: *mut u8, answer_len: usize) -> u32;
-        pub fn dehlbazin_prepare(region: *mut u8, len: usize, list: *const u8, list_len: usize, mode: u64, answer: *mut u8, answer_len: usize) -> u32;
-        pub fn dehlbazin_commit(region: *mut u8, len: usize, committer: u64, allowance: u64, answer: *mut u8, answer_len: usize) -> u32;
+        pub fn dehlbazin_prepare(
+            region: *mut u8,
+            len: usize,
+            list: *const u8,
+            list_len: usize,
+            mode: u64,
+            answer: *mut u8,
+            answer_len: usize,
+        ) -> u32;
+        pub fn dehlbazin_commit(
+            region: *mut u8,
+            len: usize,
+            committer: u64,
+            allowance: u64,
+            answer: *mut u8,
+            answer_len: usize,
+        ) -> u32;
         pub fn dehlbazin_rollback(region: *mut u8, len: usize, answer: *mut u8, answer_len: usize) -> u32;
         pub fn dehlbazin_read_name(region: *const u8, len: usize, name: u64, answer: *mut u8, answer_len: usize) -> u32;
-        pub fn dehlbazin_read_line(region: *const u8, len: usize, name: u64, place: u64, answer: *mut u8, answer_len: usize) -> u32;
+        pub fn dehlbazin_read_line(
+            region: *const u8,
+            len: usize,
+            name: u64,
+            place: u64,
+            answer: *mut u8,
+            answer_len: usize,
+        ) -> u32;
         pub fn dehlbazin_read_row(region: *const u8, len: usize, place: u64, answer: *mut u8, answer_len: usize) -> u32;
     }
 }

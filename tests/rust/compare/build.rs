@@ -1,6 +1,6 @@
 //! Short words to write a case down.
 
-use crate::case::{Case, Change, ENOUGH, Edit, End, Expected, Line, Loose, Store, Target};
+use crate::case::{Case, Change, Edit, End, Expected, Line, Loose, Store, Target, ENOUGH};
 
 pub fn object(number: u64) -> Target {
     Target::Object(number)
@@ -12,7 +12,13 @@ pub fn link(name: usize) -> Target {
 
 /// An update that expects anything, of the reference and its log.
 pub fn update(name: usize, new: Target) -> Edit {
-    Edit { name, change: Change::Update { new, force: false, message: 3 }, deref: false, log_only: false, expected: Expected::Any }
+    Edit {
+        name,
+        change: Change::Update { new, force: false, message: 3 },
+        deref: false,
+        log_only: false,
+        expected: Expected::Any,
+    }
 }
 
 /// A delete that expects anything, of the reference and its log.

@@ -1,7 +1,8 @@
 //! The known differences, as predicates written from docs/DIFFERENCES.md. Outside of them nothing may differ.
 
 use crate::answer::{Answer, Row};
-use crate::case::{Case, Edit, Loose, Target, packable};
+use crate::case::{packable, Case, Edit, Loose, Target};
+use std::collections::BTreeSet;
 
 /// How far a case had come when the two sides differed.
 #[derive(Clone, Copy, PartialEq, Eq, PartialOrd, Ord, Debug)]
@@ -42,13 +43,7 @@ fn direct_and_unpackable(case: &Case, row: &Row) -> bool {
 /// short for is a link.
 fn found_by_partial_name(case: &Case, edit: &Edit) -> bool {
     let store = &case.store;
-    let mut name = edit.name;
-    for _ in 0..5 {
-        match store.state.loose[name] {
-            Some(Loose::Value(Target::Link(next))) => name = next,
-            _ => break,
-        }
-    }
+    let name = links_from(case, edit.name).last().copied().unwrap_or(edit.name);
     let short = &store.names[name];
     let is_link = |full: String| {
         let found = store.names.iter().position(|known| *known == full);
@@ -62,8 +57,35 @@ fn found_by_partial_name(case: &Case, edit: &Edit) -> bool {
         && longer.into_iter().chain([remote_head]).any(is_link)
 }
 
-/// 9: of two names one lies beneath the other, so that one would have to be a file and a directory.
+/// 9: of two names one lies beneath the other, and both would have to be there as files: values, logs or locks that are there, or
+/// the locks of rows.
 fn one_beneath_another(case: &Case) -> bool {
-    let names = &case.store.names;
-    names.iter().any(|upper| names.iter().any(|lower| lower.strip_prefix(upper.as_str()).is_some_and(|rest| rest.starts_with('/'))))
+    let (names, touched) = (&case.store.names, touched(case));
+    let beneath = |lower: &str, upper: &str| lower.strip_prefix(upper).is_some_and(|rest| rest.starts_with('/'));
+    touched.iter().any(|upper| touched.iter().any(|lower| beneath(&names[*lower], &names[*upper])))
+}
+
+/// The names that have files, or that the edits come to.
+fn touched(case: &Case) -> BTreeSet<usize> {
+    let state = &case.store.state;
+    let has_file =
+        |name: &usize| state.loose[*name].is_some() || state.locks[*name] || state.lines.iter().any(|line| line.name == *name);
+    let mut touched: BTreeSet<usize> = (0..case.store.names.len()).filter(has_file).collect();
+    for edit in &case.edits {
+        touched.insert(edit.name);
+        if edit.deref {
+            touched.extend(links_from(case, edit.name));
+        }
+    }
+    touched
+}
+
+/// The names that the links from a name lead to, as far as they are followed.
+fn links_from(case: &Case, mut name: usize) -> Vec<usize> {
+    let mut list = Vec::new();
+    while let (Some(Loose::Value(Target::Link(next))), true) = (case.store.state.loose[name], list.len() < 5) {
+        list.push(next);
+        name = next;
+    }
+    list
 }

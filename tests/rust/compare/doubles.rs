@@ -1,7 +1,7 @@
 //! Every pair of edits over three names, with fewer values.
 
-use crate::case::{Case, ENOUGH, Edit, End, Expected, Loose, State, Store, Target};
-use crate::product::{Parts, pairs};
+use crate::case::{Case, Edit, End, Expected, Loose, State, Store, Target, ENOUGH};
+use crate::product::{pairs, Parts};
 
 const NAMES: [&str; 3] = ["HEAD", "refs/heads/aisle", "refs/tags/v1"];
 const ONE: Target = Target::Object(1);

@@ -7,9 +7,9 @@ use counted::ledger;
 use gix_hash::ObjectId;
 use gix_lock::acquire::Fail;
 use gix_object::find::Never;
-use gix_ref::FullName;
-use gix_ref::file::{self, log, transaction::PackedRefs, transaction::commit, transaction::prepare};
+use gix_ref::file::{self, log, transaction::commit, transaction::prepare, transaction::PackedRefs};
 use gix_ref::transaction::{Change, LogChange, PreviousValue, RefEdit, RefLog};
+use gix_ref::FullName;
 use std::panic::{self, AssertUnwindSafe};
 
 /// Ways to run the Rust that the scope has no word for. Each shows one of the known differences.
@@ -74,7 +74,10 @@ fn finish(site: &Site, case: &Case, transaction: file::Transaction<'_, '_>) -> A
     steps.iter().for_each(|step| step.apply(&mut after));
     assert_same(site, case, &after);
     let ours_packed = packed_lock && !before.packed_lock;
-    Answer { reply: Reply::new(0, &[rows.len() as u64]), prepared: Some(Prepared { rows, ours, ours_packed, end, steps, after }) }
+    Answer {
+        reply: Reply::new(0, &[rows.len() as u64]),
+        prepared: Some(Prepared { rows, ours, ours_packed, end, steps, after }),
+    }
 }
 
 fn end_by_commit(transaction: file::Transaction<'_, '_>, committer: u16) -> Reply {
@@ -168,8 +171,19 @@ fn row(store: &Store, row: &file::Row) -> Row {
     let parent = row.parent.unwrap_or(0) as u64;
     let leaf = row.leaf_previous.map_or(0, |id| id.number());
     [
-        name, kind, log_only, force.into(), message, expected, expected_kind, expected_number, new_kind, new_number,
-        row.parent.is_some().into(), parent, leaf,
+        name,
+        kind,
+        log_only,
+        force.into(),
+        message,
+        expected,
+        expected_kind,
+        expected_number,
+        new_kind,
+        new_number,
+        row.parent.is_some().into(),
+        parent,
+        leaf,
     ]
 }
 

@@ -1,7 +1,7 @@
 //! Random cases: up to 32 edits and 20 names (40 now and then, so that 32 edits can have names of their own), chains of links,
 //! every mode and setting, foreign locks, logs that are there already.
 
-use crate::case::{Case, Change, ENOUGH, Edit, End, Expected, Line, Loose, Store, Target, packable};
+use crate::case::{packable, Case, Change, Edit, End, Expected, Line, Loose, Store, Target, ENOUGH};
 use crate::dice::Dice;
 
 /// Names of every kind that the rules tell apart. No one lies beneath another.

@@ -1,7 +1,7 @@
 //! The recorded cases: those by name, and of many more each that shows something no earlier one did.
 
 use crate::answer::{Answer, Prepared, Row, Step};
-use crate::case::{Case, End, packable};
+use crate::case::{packable, Case, End};
 use crate::dice::Dice;
 use crate::judge::{self, Care, Verdict};
 use crate::site::Site;
@@ -23,7 +23,10 @@ pub fn write(site: &Site, file: &str) -> bool {
 pub fn check(site: &Site, file: &str) -> bool {
     let text = recorded(site);
     let same = fs::read_to_string(file).is_ok_and(|found| found == text);
-    println!("{file}: {}", if same { "it would be written the same" } else { "it would be written otherwise, or cannot be read" });
+    println!(
+        "{file}: {}",
+        if same { "it would be written the same" } else { "it would be written otherwise, or cannot be read" }
+    );
     same
 }
 
@@ -98,7 +101,10 @@ impl Recorder<'_> {
 /// What a case shows, in words. Two cases with the same words show the same.
 fn features(case: &Case, rust: &Answer) -> String {
     let Some(prepared) = &rust.prepared else {
-        let edits = case.edits.iter().map(|edit| (edit.change == crate::case::Change::Delete, edit.deref, edit.log_only, edit.expected.parts().0));
+        let edits = case
+            .edits
+            .iter()
+            .map(|edit| (edit.change == crate::case::Change::Delete, edit.deref, edit.log_only, edit.expected.parts().0));
         return format!("{} {:?} {} {:?}", case.mode, rust.reply.number, rust.reply.places[3], edits.collect::<BTreeSet<_>>());
     };
     if prepared.end.number != 0 {
@@ -121,7 +127,8 @@ fn step_word(step: &Step) -> &'static str {
 }
 
 fn row_words(case: &Case, prepared: &Prepared, row: &Row) -> String {
-    let [name, kind, log_only, force, _, expected, expected_kind, expected_number, new_kind, new_number, parent, _, leaf] = *row;
+    let [name, kind, log_only, force, _, expected, expected_kind, expected_number, new_kind, new_number, parent, _, leaf] =
+        *row;
     let same = (expected_kind, expected_number) == (new_kind, new_number);
     let (packable, ours) = (packable(&case.store.names[name as usize]), prepared.ours[name as usize]);
     format!("{kind}{log_only}{force}{expected}{expected_kind}{new_kind}{same}{parent}{}{packable}{ours}", leaf != 0)

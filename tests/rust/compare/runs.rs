@@ -21,8 +21,10 @@ pub fn all(site: &Site, count: u64, seed: u64) -> bool {
 /// A share of everything, or that part of it. The last line is 'N passed, M failed'.
 pub fn share(site: &Site, part: u64) -> bool {
     let stride = 11 * part;
-    let tallies = [differences(site), named(site), singles(site, stride), doubles(site, stride), random(site, 20_000 / part, 1)];
-    let (passed, failed) = tallies.iter().fold((0, 0), |(passed, failed), tally| (passed + tally.passed(), failed + tally.failed()));
+    let tallies =
+        [differences(site), named(site), singles(site, stride), doubles(site, stride), random(site, 20_000 / part, 1)];
+    let (passed, failed) =
+        tallies.iter().fold((0, 0), |(passed, failed), tally| (passed + tally.passed(), failed + tally.failed()));
     println!("{passed} passed, {failed} failed");
     failed == 0 && tallies.iter().all(Tally::fine)
 }

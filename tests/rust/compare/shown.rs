@@ -1,9 +1,9 @@
 //! Each known difference by its smallest input, run on both sides. A difference that cannot be seen any more fails.
 
-use crate::answer::{Answer, FAILED, Prepared};
+use crate::answer::{Answer, Prepared, FAILED};
 use crate::archive;
 use crate::build::{delete, link, object, store, update};
-use crate::case::{Case, ENOUGH, Expected, Line, Target};
+use crate::case::{Case, Expected, Line, Target, ENOUGH};
 use crate::image;
 use crate::judge::{self, Care, Verdict};
 use crate::original::{self, Odd};
@@ -99,7 +99,13 @@ fn partial_name(site: &Site) -> Vec<Seen> {
     let rust = prepared(&original::answer(site, &case)).rows.len();
     let here = prepare(&case).1.places[0];
     let fine = explained(site, &case, 2) && rust == 2 && here == 1;
-    vec![seen(2, "HEAD absent, refs/heads/HEAD a link, HEAD updated with deref", format!("makes {rust} rows"), format!("{here} is made"), fine)]
+    vec![seen(
+        2,
+        "HEAD absent, refs/heads/HEAD a link, HEAD updated with deref",
+        format!("makes {rust} rows"),
+        format!("{here} is made"),
+        fine,
+    )]
 }
 
 /// The text that a part of the Rust panics with.
@@ -121,7 +127,8 @@ fn panics(site: &Site) -> Vec<Seen> {
     let edits = || vec![original::ref_edit(&case.store, &case.edits[0])];
     let fail = Fail::Immediately;
     let deleted = panic_text(|| rust.transaction().prepare(edits(), fail, fail));
-    let twice = panic_text(|| rust.transaction().prepare(vec![], fail, fail).and_then(|prepared| prepared.prepare(vec![], fail, fail)));
+    let twice =
+        panic_text(|| rust.transaction().prepare(vec![], fail, fail).and_then(|prepared| prepared.prepare(vec![], fail, fail)));
     let unprepared = panic_text(|| rust.transaction().commit(None));
 
     let here = prepare(&case).1.number;
@@ -129,9 +136,27 @@ fn panics(site: &Site) -> Vec<Seen> {
     let here_twice = archive::prepare(&mut prepare(&empty).0, &[], 1).number;
     let here_unprepared = archive::commit(&mut image::encode(&empty.store, &empty.store.state, None), 1, 1).number;
     vec![
-        seen(3, "a delete of HEAD that expects nothing there", format!("panics, '{deleted}'"), here.to_string(), here == 13 && deleted.starts_with("BUG")),
-        seen(4, "prepare twice", format!("panics, '{twice}'"), here_twice.to_string(), here_twice == 15 && twice.starts_with("BUG")),
-        seen(4, "commit unprepared", format!("panics, '{unprepared}'"), here_unprepared.to_string(), here_unprepared == 15 && unprepared.starts_with("BUG")),
+        seen(
+            3,
+            "a delete of HEAD that expects nothing there",
+            format!("panics, '{deleted}'"),
+            here.to_string(),
+            here == 13 && deleted.starts_with("BUG"),
+        ),
+        seen(
+            4,
+            "prepare twice",
+            format!("panics, '{twice}'"),
+            here_twice.to_string(),
+            here_twice == 15 && twice.starts_with("BUG"),
+        ),
+        seen(
+            4,
+            "commit unprepared",
+            format!("panics, '{unprepared}'"),
+            here_unprepared.to_string(),
+            here_unprepared == 15 && unprepared.starts_with("BUG"),
+        ),
     ]
 }
 
@@ -142,7 +167,13 @@ fn always(site: &Site) -> Vec<Seen> {
     let rust = prepared(&original::answer_oddly(site, &case, odd)).after.lines.len();
     let here = archive::read_line(&run(&case).0, 0, 0).number;
     let input = "setting 2, FETCH_HEAD updated to 7";
-    vec![seen(5, input, format!("writes {rust} line, if all names are meant"), format!("reading one answers {here}"), rust == 1 && here == 22)]
+    vec![seen(
+        5,
+        input,
+        format!("writes {rust} line, if all names are meant"),
+        format!("reading one answers {here}"),
+        rust == 1 && here == 22,
+    )]
 }
 
 /// 6. A packed table without entries.
@@ -152,7 +183,13 @@ fn empty_table(site: &Site) -> Vec<Seen> {
     let rust = prepared(&original::answer_oddly(site, &case, odd)).ours_packed;
     let here = archive::lock_packed(&mut prepare(&case).0).number;
     let input = "a packed file of no entries, refs/heads/aisle deleted in mode 1";
-    vec![seen(6, input, format!("takes the packed lock: {rust}"), format!("placing that lock then answers {here}"), rust && here == 0)]
+    vec![seen(
+        6,
+        input,
+        format!("takes the packed lock: {rust}"),
+        format!("placing that lock then answers {here}"),
+        rust && here == 0,
+    )]
 }
 
 /// 7. No committer, and a full log.
@@ -166,8 +203,20 @@ fn no_counterpart(site: &Site) -> Vec<Seen> {
     let here_full = prepare(&full).1.number;
     let input = "the whole example of the edit list, committed with no committer";
     vec![
-        seen(7, input, "gives MissingCommitter".to_owned(), format!("{} with {} writes made", here.number, here.places[0]), rust == 16 && here.number == 16),
-        seen(7, "HEAD has 1,024 lines and is updated to 7", format!("leaves {lines} lines"), here_full.to_string(), lines == 1025 && here_full == 14),
+        seen(
+            7,
+            input,
+            "gives MissingCommitter".to_owned(),
+            format!("{} with {} writes made", here.number, here.places[0]),
+            rust == 16 && here.number == 16,
+        ),
+        seen(
+            7,
+            "HEAD has 1,024 lines and is updated to 7",
+            format!("leaves {lines} lines"),
+            here_full.to_string(),
+            lines == 1025 && here_full == 14,
+        ),
     ]
 }
 
@@ -176,7 +225,13 @@ fn null_id(site: &Site) -> Vec<Seen> {
     let case = store(1, &["refs/heads/aisle"]).edit(update(0, object(0)));
     let rust = original::answer(site, &case).reply.number;
     let here = prepare(&case).1.number;
-    vec![seen(8, "refs/heads/aisle updated to object 0", format!("prepares it, {rust}"), here.to_string(), rust == 0 && here == 2)]
+    vec![seen(
+        8,
+        "refs/heads/aisle updated to object 0",
+        format!("prepares it, {rust}"),
+        here.to_string(),
+        rust == 0 && here == 2,
+    )]
 }
 
 /// 9. A name beneath another.

@@ -23,7 +23,10 @@ fn differs(site: &Site, case: &Case) -> Option<String> {
 }
 
 fn step(site: &Site, case: &Case) -> Option<(Case, String)> {
-    smaller(case).into_iter().filter(|smaller| smaller != case).find_map(|smaller| differs(site, &smaller).map(|text| (smaller, text)))
+    smaller(case)
+        .into_iter()
+        .filter(|smaller| smaller != case)
+        .find_map(|smaller| differs(site, &smaller).map(|text| (smaller, text)))
 }
 
 /// Cases that are smaller by one thing.

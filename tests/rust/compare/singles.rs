@@ -1,7 +1,7 @@
 //! Every case of one edit over two names, in three families: values, locks, logs.
 
-use crate::case::{Case, ENOUGH, Edit, End, Expected, Line, Loose, State, Store, Target, packable};
-use crate::product::{Parts, expectations, pairs};
+use crate::case::{packable, Case, Edit, End, Expected, Line, Loose, State, Store, Target, ENOUGH};
+use crate::product::{expectations, pairs, Parts};
 
 /// The edited name and another one, which it may link to.
 const NAMES: [[&str; 2]; 4] = [
@@ -81,7 +81,8 @@ fn locks(names: [&str; 2], hand_out: &mut dyn FnMut(&Case)) {
 
 /// Every setting, logs that are there already, force, and no committer.
 fn logs(names: [&str; 2], hand_out: &mut dyn FnMut(&Case)) {
-    let expected = [Expected::Any, Expected::MustExistAndMatch(ONE), Expected::ExistingMustMatch(ONE), Expected::ExistingMustMatch(TWO)];
+    let expected =
+        [Expected::Any, Expected::MustExistAndMatch(ONE), Expected::ExistingMustMatch(ONE), Expected::ExistingMustMatch(TWO)];
     let edits = Parts { news: &[ONE, TWO, OTHER], expected: &expected, forces: &[false, true] }.edits(0);
     let line = |name| Line { name, previous: 0, new: 5, committer: 9, message: 8 };
     let lines = [vec![], vec![line(0)], vec![line(1)], vec![line(1), line(0), line(1)]];

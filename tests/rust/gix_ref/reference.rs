@@ -1,6 +1,6 @@
 //! A reference that was found, whether loose or packed.
 
-use crate::{FullName, Target, file::loose, packed};
+use crate::{file::loose, packed, FullName, Target};
 
 #[derive(Debug, Clone)]
 pub struct Reference {

@@ -1,7 +1,7 @@
 //! Targets, as gix-ref's lib.rs declares them.
 
 use crate::{FullName, FullNameRef};
-use gix_hash::{ObjectId, oid};
+use gix_hash::{oid, ObjectId};
 
 #[derive(PartialEq, Eq, Debug, Hash, Ord, PartialOrd, Clone, Copy)]
 pub enum Kind {

@@ -67,7 +67,11 @@ pub struct Transaction {
 }
 
 impl Transaction {
-    pub(super) fn open(path: &Path, buffer: Option<Buffer>, fail: gix_lock::acquire::Fail) -> Result<Self, gix_lock::acquire::Error> {
+    pub(super) fn open(
+        path: &Path,
+        buffer: Option<Buffer>,
+        fail: gix_lock::acquire::Fail,
+    ) -> Result<Self, gix_lock::acquire::Error> {
         let lock = gix_lock::File::acquire_to_update_resource(path, fail, None)?;
         Ok(Transaction { buffer, edits: Vec::new(), lock })
     }
