@@ -7,6 +7,7 @@ mod case;
 mod dice;
 mod differences;
 mod doubles;
+mod git;
 mod image;
 mod judge;
 mod named;
@@ -31,6 +32,7 @@ fn main() {
     let fine = match words[..] {
         ["all", count, seed] => runs::all(&site, number(count), number(seed)),
         ["differences"] => runs::differences(&site).fine(),
+        ["git", count, seed] => runs::git(&site, number(count), number(seed)).is_some_and(|tally| tally.fine()),
         ["named"] => runs::named(&site).fine(),
         ["random", count, seed] => runs::random(&site, number(count), number(seed)).fine(),
         ["share", part] => runs::share(&site, number(part)),
@@ -47,7 +49,9 @@ fn main() {
 
 fn usage() -> ! {
     eprintln!("usage: compare all COUNT SEED | share PART | record FILE | check FILE");
-    eprintln!("       compare differences | named | quick | singles STRIDE | doubles STRIDE | random COUNT SEED");
+    eprintln!(
+        "       compare git COUNT SEED | differences | named | quick | singles STRIDE | doubles STRIDE | random COUNT SEED"
+    );
     std::process::exit(2)
 }
 

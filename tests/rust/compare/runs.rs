@@ -3,6 +3,7 @@
 use crate::case::Case;
 use crate::dice::Dice;
 use crate::doubles;
+use crate::git::{self, Git};
 use crate::judge::Care;
 use crate::named;
 use crate::random;
@@ -10,23 +11,29 @@ use crate::shown;
 use crate::singles;
 use crate::site::Site;
 use crate::tally::Tally;
+use crate::text;
 use std::time::Instant;
 
 /// All of the exhaustive cases, and so many random ones.
 pub fn all(site: &Site, count: u64, seed: u64) -> bool {
     let tallies = [differences(site), named(site), singles(site, 1), doubles(site, 1), random(site, count, seed)];
-    tallies.iter().all(Tally::fine)
+    verdict(tallies.into_iter().chain(git(site, count / 20, seed)).collect())
 }
 
-/// A share of everything, or that part of it. The last line is 'N passed, M failed'.
+/// A share of everything, or that part of it.
 pub fn share(site: &Site, part: u64) -> bool {
     let stride = 11 * part;
     let tallies =
         [differences(site), named(site), singles(site, stride), doubles(site, stride), random(site, 20_000 / part, 1)];
-    let (passed, failed) =
-        tallies.iter().fold((0, 0), |(passed, failed), tally| (passed + tally.passed(), failed + tally.failed()));
+    verdict(tallies.into_iter().chain(git(site, 1_000 / part, 1)).collect())
+}
+
+/// Ends with the line 'N passed, M failed'.
+fn verdict(tallies: Vec<Tally>) -> bool {
+    let passed: u64 = tallies.iter().map(Tally::passed).sum();
+    let failed: u64 = tallies.iter().map(Tally::failed).sum();
     println!("{passed} passed, {failed} failed");
-    failed == 0 && tallies.iter().all(Tally::fine)
+    tallies.iter().all(Tally::fine)
 }
 
 /// As little as shows that a change to the Rust is noticed. It ends with the first part that notices it.
@@ -91,4 +98,23 @@ pub fn differences(site: &Site) -> Tally {
     }
     tally.report("known differences", began);
     tally
+}
+
+/// Random cases that git answers too. None if there is no git.
+pub fn git(site: &Site, count: u64, seed: u64) -> Option<Tally> {
+    let Some(git) = Git::new(site) else {
+        println!("git too: skipped, since there is no git that can be run");
+        return None;
+    };
+    let (mut tally, began) = (Tally::default(), Instant::now());
+    for number in 0..count {
+        let case = git::case(&mut Dice::new((seed << 32).wrapping_add(number)));
+        let rust = tally.try_case(site, &case, Care::Stops);
+        let found = git.run(site, &case).expect("git can be run");
+        if let Some(difference) = git::difference(&found, &rust, &case.store.state) {
+            tally.fail(&format!("{difference}\n{}", text::block(0, "", &case, &rust)));
+        }
+    }
+    tally.report(&format!("git too, seed {seed}"), began);
+    Some(tally)
 }
