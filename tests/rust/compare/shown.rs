@@ -236,11 +236,28 @@ fn null_id(site: &Site) -> Vec<Seen> {
 
 /// 9. A name beneath another.
 fn beneath(site: &Site) -> Vec<Seen> {
-    let case = store(1, &["refs/heads/a", "refs/heads/a/b"]).loose(0, object(5)).edit(update(1, object(7)));
-    let rust = original::answer(site, &case).reply.number;
-    let here = prepare(&case).1.number;
-    let fine = explained(site, &case, 9) && rust == FAILED && here == 0;
-    vec![seen(9, "refs/heads/a loose 5, refs/heads/a/b updated to 7", "gives an I/O error".to_owned(), here.to_string(), fine)]
+    let names = || store(1, &["refs/heads/a", "refs/heads/a/b"]);
+    let inputs = [
+        ("refs/heads/a loose 5, refs/heads/a/b updated to 7", names().loose(0, object(5)).edit(update(1, object(7)))),
+        ("refs/heads/a/b loose 5, refs/heads/a updated to 7", names().loose(1, object(5)).edit(update(0, object(7)))),
+        ("refs/heads/a/b loose 5, refs/heads/a deleted", names().loose(1, object(5)).edit(delete(0))),
+        ("refs/heads/a/b has a log, refs/heads/a deleted", names().line(1, 0, 5).edit(delete(0))),
+        ("refs/heads/a has a log, refs/heads/a/b deleted", names().line(0, 0, 5).edit(delete(1))),
+    ];
+    inputs.iter().map(|(input, case)| one_beneath(site, input, case)).collect()
+}
+
+fn one_beneath(site: &Site, input: &str, case: &Case) -> Seen {
+    let rust = original::answer(site, case);
+    let failed = |number: u32| number == FAILED;
+    let at = match &rust.prepared {
+        Some(prepared) if failed(prepared.end.number) => "commit",
+        None if failed(rust.reply.number) => "prepare",
+        _ => "nothing",
+    };
+    let here = run(case).1;
+    let fine = explained(site, case, 9) && at != "nothing" && here.number == 0;
+    seen(9, input, format!("gives an I/O error from {at}"), format!("{} with {} writes", here.number, here.places[0]), fine)
 }
 
 /// 10. Bounds. Each input is run through the Rust too, which has none of them.

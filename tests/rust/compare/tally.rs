@@ -94,7 +94,9 @@ impl Tally {
     pub fn report(&self, what: &str, began: std::time::Instant) {
         let seconds = began.elapsed().as_secs();
         println!("{what}: {} cases, {} stops run, {} differ, {seconds} s", self.cases, self.stops, self.differ);
-        println!("  known differences {:?}; prepare's numbers {:?}", self.known, self.prepares);
-        println!("  the end's numbers {:?}; at most {} rows and {} writes", self.ends, self.most_rows, self.most_writes);
+        if !self.prepares.is_empty() {
+            println!("  known differences {:?}; prepare's numbers {:?}", self.known, self.prepares);
+            println!("  the end's numbers {:?}; at most {} rows and {} writes", self.ends, self.most_rows, self.most_writes);
+        }
     }
 }
