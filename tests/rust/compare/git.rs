@@ -8,7 +8,7 @@
 
 use crate::answer::Answer;
 use crate::build::{delete, link, object, store, update};
-use crate::case::{Case, Change, Edit, Expected, Line, Loose, State, Target};
+use crate::case::{packable, Case, Change, Edit, Expected, Line, Loose, State, Target};
 use crate::dice::Dice;
 use crate::site::Site;
 use gix_hash::ObjectId;
@@ -145,11 +145,11 @@ pub fn difference(git: &(bool, State), answer: &Answer, before: &State) -> Optio
 /// A random case of the part that git shares.
 pub fn case(dice: &mut Dice) -> Case {
     let mut case = store(1 + dice.below(2) as u8, &NAMES);
-    for name in 1..NAMES.len() {
+    for (name, text) in NAMES.iter().enumerate().skip(1) {
         if dice.percent(50) {
             case = case.loose(name, object(dice.pick(&OBJECTS)));
         }
-        if dice.percent(25) && crate::case::packable(NAMES[name]) {
+        if dice.percent(25) && packable(text) {
             case = case.packed(name, dice.pick(&OBJECTS));
         }
         if dice.percent(2) {

@@ -28,13 +28,7 @@ pub enum Care {
 /// Compares the two sides on a case.
 pub fn judge(site: &Site, case: &Case, care: Care) -> (Answer, Verdict) {
     let rust = original::answer(site, case);
-    let verdict = match compare(case, &rust, care) {
-        Ok(()) => Verdict::Same,
-        Err((stage, text)) => match differences::explains(case, &rust, stage) {
-            Some(number) => Verdict::Known(number),
-            None => Verdict::Differs(text),
-        },
-    };
+    let verdict = verdict(case, &rust, compare(case, &rust, care));
     (rust, verdict)
 }
 
@@ -42,19 +36,22 @@ pub fn judge(site: &Site, case: &Case, care: Care) -> (Answer, Verdict) {
 pub fn judge_stops(site: &Site, case: &Case, writes: u64) -> Vec<(Case, Verdict)> {
     let End::Commit { committer, .. } = case.end else { return Vec::new() };
     let stopped = (0..=writes).map(|allowance| Case { end: End::Commit { committer, allowance }, ..case.clone() });
-    stopped
-        .map(|case| {
-            let rust = original::answer(site, &case);
-            let verdict = match compare_once(&case, &rust) {
-                Ok(_) => Verdict::Same,
-                Err((stage, text)) => match differences::explains(&case, &rust, stage) {
-                    Some(number) => Verdict::Known(number),
-                    None => Verdict::Differs(text),
-                },
-            };
-            (case, verdict)
-        })
-        .collect()
+    let judged = stopped.map(|case| {
+        let rust = original::answer(site, &case);
+        let verdict = verdict(&case, &rust, compare_once(&case, &rust).map(drop));
+        (case, verdict)
+    });
+    judged.collect()
+}
+
+fn verdict(case: &Case, rust: &Answer, outcome: Outcome) -> Verdict {
+    match outcome {
+        Ok(()) => Verdict::Same,
+        Err((stage, text)) => match differences::explains(case, rust, stage) {
+            Some(number) => Verdict::Known(number),
+            None => Verdict::Differs(text),
+        },
+    }
 }
 
 fn compare(case: &Case, rust: &Answer, care: Care) -> Outcome {

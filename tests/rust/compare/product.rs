@@ -1,6 +1,9 @@
 //! Every combination of some lists: the cases that are tried without chance.
 
-use crate::case::{Change, Edit, Expected, Target};
+use crate::case::{Case, Change, Edit, Expected, Target};
+
+/// A family of cases: it hands out every one of them.
+pub type Family = fn(&mut dyn FnMut(&Case));
 
 /// Every edit of a name that can be made from these parts.
 pub struct Parts<'a> {

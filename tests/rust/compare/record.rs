@@ -4,6 +4,7 @@ use crate::answer::{Answer, Prepared, Row, Step};
 use crate::case::{packable, Case, End};
 use crate::dice::Dice;
 use crate::judge::{self, Care, Verdict};
+use crate::product::Family;
 use crate::site::Site;
 use crate::{doubles, named, random, singles, text};
 use std::collections::BTreeSet;
@@ -68,7 +69,7 @@ impl Recorder<'_> {
     }
 
     /// Takes cases, looking at one of each `stride`.
-    fn take_some(&mut self, each: fn(&mut dyn FnMut(&Case)), stride: usize) {
+    fn take_some(&mut self, each: Family, stride: usize) {
         let mut place = 0;
         each(&mut |case| {
             if place % stride == 0 {

@@ -1,11 +1,11 @@
 //! The runs: which cases are tried, and how many.
 
-use crate::case::Case;
 use crate::dice::Dice;
 use crate::doubles;
 use crate::git::{self, Git};
 use crate::judge::Care;
 use crate::named;
+use crate::product::Family;
 use crate::random;
 use crate::shown;
 use crate::singles;
@@ -51,7 +51,7 @@ pub fn doubles(site: &Site, stride: u64) -> Tally {
     exhaustive(site, "two edits over three names", stride, doubles::each)
 }
 
-fn exhaustive(site: &Site, what: &str, stride: u64, each: fn(&mut dyn FnMut(&Case))) -> Tally {
+fn exhaustive(site: &Site, what: &str, stride: u64, each: Family) -> Tally {
     let (mut tally, began, mut place) = (Tally::default(), Instant::now(), 0);
     each(&mut |case| {
         if place % stride == 0 {
