@@ -60,9 +60,19 @@ fn found_by_partial_name(case: &Case, edit: &Edit) -> bool {
 /// 9: of two names one lies beneath the other, and both would have to be there as files: values, logs or locks that are there, or
 /// the locks of rows.
 fn one_beneath_another(case: &Case) -> bool {
-    let (names, touched) = (&case.store.names, touched(case));
+    nested(case, &touched(case))
+}
+
+/// Whether of all names one lies beneath another.
+pub fn has_nested_names(case: &Case) -> bool {
+    nested(case, &(0..case.store.names.len()).collect())
+}
+
+/// Whether of these names one lies beneath another.
+fn nested(case: &Case, among: &BTreeSet<usize>) -> bool {
+    let names = &case.store.names;
     let beneath = |lower: &str, upper: &str| lower.strip_prefix(upper).is_some_and(|rest| rest.starts_with('/'));
-    touched.iter().any(|upper| touched.iter().any(|lower| beneath(&names[*lower], &names[*upper])))
+    among.iter().any(|upper| among.iter().any(|lower| beneath(&names[*lower], &names[*upper])))
 }
 
 /// The names that have files, or that the edits come to.

@@ -5,7 +5,7 @@ use crate::archive;
 use crate::case::{Case, End, Target};
 use crate::differences::{self, Stage};
 use crate::image::{self, Transaction};
-use crate::original;
+use crate::original::{self, Odd};
 use crate::site::Site;
 
 pub enum Verdict {
@@ -42,6 +42,27 @@ pub fn judge_stops(site: &Site, case: &Case, writes: u64) -> Vec<(Case, Verdict)
         (case, verdict)
     });
     judged.collect()
+}
+
+/// Lets others lock all that is free between prepare and the end, on both sides: that changes nothing but those locks.
+pub fn judge_locked(site: &Site, case: &Case) -> Verdict {
+    let rust = original::answer_oddly(site, case, Odd { locked_between: true, ..Odd::default() });
+    verdict(case, &rust, compare_locked(case, &rust))
+}
+
+fn compare_locked(case: &Case, rust: &Answer) -> Outcome {
+    let mut region = image::encode(&case.store, &case.store.state, None);
+    same_reply(Stage::Prepare, &rust.reply, archive::prepare(&mut region, &case.edits, case.mode))?;
+    let Some(prepared) = &rust.prepared else { return Ok(()) };
+    for name in 0..case.store.names.len() {
+        let free = !prepared.ours[name] && !case.store.state.locks[name];
+        let reply = Reply::new(if free { 0 } else { 20 }, &[]);
+        same_reply(Stage::Locks, &reply, archive::lock_name(&mut region, name))?;
+    }
+    let free = !prepared.ours_packed && !case.store.state.packed_lock;
+    same_reply(Stage::Locks, &Reply::new(if free { 0 } else { 20 }, &[]), archive::lock_packed(&mut region))?;
+    same_reply(Stage::End, &prepared.end, archive::end(&mut region, case))?;
+    same_region(Stage::End, &image::encode(&case.store, &prepared.after, None), &region)
 }
 
 fn verdict(case: &Case, rust: &Answer, outcome: Outcome) -> Verdict {

@@ -12,13 +12,15 @@ use gix_ref::transaction::{Change, LogChange, PreviousValue, RefEdit, RefLog};
 use gix_ref::FullName;
 use std::panic::{self, AssertUnwindSafe};
 
-/// Ways to run the Rust that the scope has no word for. Each shows one of the known differences.
+/// Ways to run the Rust that a case has no word for.
 #[derive(Clone, Copy, Default)]
 pub struct Odd {
     /// Setting 2 is read as gix-ref's own comment has it: for all names.
     pub log_for_all: bool,
     /// A packed table without entries is there as a file.
     pub empty_packed_file: bool,
+    /// Between prepare and the end, others lock all that is free.
+    pub locked_between: bool,
 }
 
 /// The answer of the Rust to a case.
@@ -42,7 +44,7 @@ pub fn answer_oddly(site: &Site, case: &Case, odd: Odd) -> Answer {
     let edits: Vec<RefEdit> = case.edits.iter().map(|edit| ref_edit(&case.store, edit)).collect();
     let run = panic::catch_unwind(AssertUnwindSafe(|| transaction.prepare(edits, Fail::Immediately, Fail::Immediately)));
     let reply = match run {
-        Ok(Ok(transaction)) => return finish(site, case, transaction),
+        Ok(Ok(transaction)) => return finish(site, case, transaction, odd),
         Ok(Err(err)) => refusal(&case.store, err),
         Err(panic) => panicked(site, case, panic.as_ref()),
     };
@@ -60,20 +62,25 @@ fn assert_same(site: &Site, case: &Case, state: &State) {
 }
 
 /// Reads what was prepared, ends the transaction, and reads what is there then.
-fn finish(site: &Site, case: &Case, transaction: file::Transaction<'_, '_>) -> Answer {
+fn finish(site: &Site, case: &Case, transaction: file::Transaction<'_, '_>, odd: Odd) -> Answer {
     let (store, before) = (&case.store, &case.store.state);
     let rows: Vec<Row> = transaction.rows().iter().map(|found| row(store, found)).collect();
     let (locks, packed_lock) = site.locks(store);
-    let ours = locks.iter().zip(&before.locks).map(|(held, foreign)| *held && !foreign).collect();
+    let ours: Vec<bool> = locks.iter().zip(&before.locks).map(|(held, foreign)| *held && !foreign).collect();
+    let ours_packed = packed_lock && !before.packed_lock;
+    let mut after = before.clone();
+    if odd.locked_between {
+        site.lock_all(store).expect("what is free can be locked");
+        after.locks = ours.iter().map(|ours| !ours).collect();
+        after.packed_lock = !ours_packed;
+    }
     let end = match case.end {
         End::Commit { committer, .. } => end_by_commit(transaction, committer),
         End::Rollback => Reply::new(0, &[transaction.rollback().len() as u64]),
     };
     let steps: Vec<Step> = ledger::close().iter().map(|write| site.step(store, write)).collect();
-    let mut after = before.clone();
     steps.iter().for_each(|step| step.apply(&mut after));
     assert_same(site, case, &after);
-    let ours_packed = packed_lock && !before.packed_lock;
     Answer {
         reply: Reply::new(0, &[rows.len() as u64]),
         prepared: Some(Prepared { rows, ours, ours_packed, end, steps, after }),

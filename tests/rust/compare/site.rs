@@ -69,6 +69,18 @@ impl Site {
         (names, gix_lock::lock_path(&self.packed_path()).is_file())
     }
 
+    /// Locks every name and the packed table, if they are free.
+    pub fn lock_all(&self, store: &Store) -> io::Result<()> {
+        let dir = self.git_dir();
+        let names = store.names.iter().map(|name| dir.join(name));
+        for lock in names.chain([self.packed_path()]).map(|path| gix_lock::lock_path(&path)) {
+            if !lock.exists() {
+                write(&lock, "")?;
+            }
+        }
+        Ok(())
+    }
+
     /// The state as the files have it. Lines stand by name, since each name has a log of its own.
     pub fn read(&self, store: &Store) -> State {
         let dir = self.git_dir();

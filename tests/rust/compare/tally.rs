@@ -2,6 +2,7 @@
 
 use crate::answer::Answer;
 use crate::case::Case;
+use crate::differences;
 use crate::judge::{self, Care, Verdict};
 use crate::shrink;
 use crate::site::Site;
@@ -15,6 +16,7 @@ const SHOWN: u64 = 5;
 pub struct Tally {
     cases: u64,
     stops: u64,
+    locked: u64,
     differ: u64,
     known: BTreeMap<usize, u64>,
     prepares: BTreeMap<u32, u64>,
@@ -38,10 +40,15 @@ impl Tally {
         rust
     }
 
-    /// The same, and then once more for every stop of the commit.
+    /// The same, then once more with locks that others place in between, and once for every stop of the commit.
     pub fn try_case_and_stops(&mut self, site: &Site, case: &Case) {
         let rust = self.try_case(site, case, Care::Reads);
         let Some(prepared) = rust.prepared else { return };
+        if !differences::has_nested_names(case) {
+            self.locked += 1;
+            let verdict = judge::judge_locked(site, case);
+            self.count(site, case, verdict);
+        }
         for (stopped, verdict) in judge::judge_stops(site, case, prepared.steps.len() as u64) {
             self.stops += 1;
             self.count(site, &stopped, verdict);
@@ -79,7 +86,7 @@ impl Tally {
 
     /// How many runs were as they should be.
     pub fn passed(&self) -> u64 {
-        self.cases + self.stops - self.differ
+        self.cases + self.stops + self.locked - self.differ
     }
 
     pub fn failed(&self) -> u64 {
@@ -93,7 +100,8 @@ impl Tally {
 
     pub fn report(&self, what: &str, began: std::time::Instant) {
         let seconds = began.elapsed().as_secs();
-        println!("{what}: {} cases, {} stops run, {} differ, {seconds} s", self.cases, self.stops, self.differ);
+        let Tally { cases, stops, locked, differ, .. } = self;
+        println!("{what}: {cases} cases, {stops} stops run, {locked} runs with locks in between, {differ} differ, {seconds} s");
         if !self.prepares.is_empty() {
             println!("  known differences {:?}; prepare's numbers {:?}", self.known, self.prepares);
             println!("  the end's numbers {:?}; at most {} rows and {} writes", self.ends, self.most_rows, self.most_writes);
