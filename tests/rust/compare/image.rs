@@ -1,7 +1,7 @@
 //! The bytes that stand for a store, written from docs/LAYOUT.md alone, and the bytes of an edit list, from docs/SPEC.md.
 
 use crate::answer::Row;
-use crate::case::{Change, Edit, Loose, State, Store, Target};
+use crate::case::{Change, Edit, Line, Loose, State, Store, Target};
 
 pub const SIZE: usize = 49_549;
 
@@ -73,6 +73,50 @@ fn put_transaction(region: &mut [u8], transaction: &Transaction) {
             at += width;
         }
     }
+}
+
+/// The lock of a name in a region: 0 free, 1 foreign, 2 ours.
+pub fn lock(region: &[u8], name: usize) -> u64 {
+    get(region, LOCKS + name, 1)
+}
+
+/// The lock of the packed table in a region.
+pub fn packed_lock(region: &[u8]) -> u64 {
+    get(region, 12, 1)
+}
+
+/// The state in a region with so many names.
+pub fn decode_state(region: &[u8], names: usize) -> State {
+    let mut state = State::empty(names);
+    for name in 0..names {
+        let number = get(region, LOOSE + 9 * name + 1, 8);
+        state.loose[name] = match get(region, LOOSE + 9 * name, 1) {
+            0 => None,
+            1 => Some(Loose::Value(Target::Object(number))),
+            2 => Some(Loose::Value(Target::Link(number as usize))),
+            _ => Some(Loose::Broken),
+        };
+        state.packed[name] = Some(get(region, PACKED + 8 * name, 8)).filter(|object| *object != 0);
+        state.locks[name] = lock(region, name) == 1;
+    }
+    state.packed_lock = packed_lock(region) == 1;
+    let lines = (0..get(region, 8, 2) as usize).map(|place| LINES + 22 * place);
+    state.lines = lines.map(|at| decode_line(region, at)).collect();
+    state
+}
+
+fn decode_line(region: &[u8], at: usize) -> Line {
+    Line {
+        name: get(region, at, 2) as usize,
+        previous: get(region, at + 2, 8),
+        new: get(region, at + 10, 8),
+        committer: get(region, at + 18, 2) as u16,
+        message: get(region, at + 20, 2) as u16,
+    }
+}
+
+fn get(bytes: &[u8], at: usize, width: usize) -> u64 {
+    bytes[at..at + width].iter().fold(0, |number, byte| number << 8 | u64::from(*byte))
 }
 
 /// The bytes of an edit list.

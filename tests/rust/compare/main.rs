@@ -15,6 +15,7 @@ mod original;
 mod product;
 mod random;
 mod record;
+mod replay;
 mod runs;
 mod shown;
 mod shrink;
@@ -38,6 +39,7 @@ fn main() {
         ["share", part] => runs::share(&site, number(part)),
         ["quick"] => runs::quick(&site),
         ["record", file] => record::write(&site, file),
+        ["replay", file] => replay::replay(file).fine(),
         ["check", file] => record::check(&site, file),
         ["singles", stride] => runs::singles(&site, number(stride)).fine(),
         ["doubles", stride] => runs::doubles(&site, number(stride)).fine(),
@@ -48,7 +50,7 @@ fn main() {
 }
 
 fn usage() -> ! {
-    eprintln!("usage: compare all COUNT SEED | share PART | record FILE | check FILE");
+    eprintln!("usage: compare all COUNT SEED | share PART | record FILE | check FILE | replay FILE");
     eprintln!(
         "       compare git COUNT SEED | differences | named | quick | singles STRIDE | doubles STRIDE | random COUNT SEED"
     );

@@ -7,6 +7,8 @@ use crate::judge::Care;
 use crate::named;
 use crate::product::Family;
 use crate::random;
+use crate::record;
+use crate::replay;
 use crate::shown;
 use crate::singles;
 use crate::site::Site;
@@ -14,26 +16,37 @@ use crate::tally::Tally;
 use crate::text;
 use std::time::Instant;
 
+/// Where the recorded cases stand, seen from the project's directory.
+const RECORDED: &str = "tests/rust/cases.txt";
+
 /// All of the exhaustive cases, and so many random ones.
 pub fn all(site: &Site, count: u64, seed: u64) -> bool {
-    let tallies = [differences(site), named(site), singles(site, 1), doubles(site, 1), random(site, count, seed)];
-    verdict(tallies.into_iter().chain(git(site, count / 20, seed)).collect())
+    some(site, 1, count, count / 20, seed)
 }
 
 /// A share of everything, or that part of it.
 pub fn share(site: &Site, part: u64) -> bool {
-    let stride = 11 * part;
-    let tallies =
-        [differences(site), named(site), singles(site, stride), doubles(site, stride), random(site, 20_000 / part, 1)];
-    verdict(tallies.into_iter().chain(git(site, 1_000 / part, 1)).collect())
+    some(site, 11 * part, 15_000 / part, 1_000 / part, 1)
 }
 
-/// Ends with the line 'N passed, M failed'.
-fn verdict(tallies: Vec<Tally>) -> bool {
+/// One of each `stride` exhaustive cases, and so many random ones without and with git. It ends with 'N passed, M failed'.
+fn some(site: &Site, stride: u64, count: u64, with_git: u64, seed: u64) -> bool {
+    let mut tallies = vec![differences(site), recorded(site), named(site)];
+    tallies.push(singles(site, stride));
+    tallies.push(doubles(site, stride));
+    tallies.push(random(site, count, seed));
+    tallies.extend(git(site, with_git, seed));
     let passed: u64 = tallies.iter().map(Tally::passed).sum();
     let failed: u64 = tallies.iter().map(Tally::failed).sum();
     println!("{passed} passed, {failed} failed");
     tallies.iter().all(Tally::fine)
+}
+
+/// The recorded cases are those that would be recorded now, and the archive answers them as the Rust did.
+fn recorded(site: &Site) -> Tally {
+    let mut tally = replay::replay(RECORDED);
+    tally.check(record::check(site, RECORDED), "the recorded cases would change");
+    tally
 }
 
 /// As little as shows that a change to the Rust is noticed. It ends with the first part that notices it.
