@@ -95,17 +95,23 @@ fn lost_in_mode_3(site: &Site) -> Vec<Seen> {
 
 /// 2. Links looked up by a partial name.
 fn partial_name(site: &Site) -> Vec<Seen> {
-    let case = store(1, &["HEAD", "refs/heads/HEAD", "refs/heads/main"]).loose(1, link(2)).edit(update(0, object(7)).deref());
-    let rust = prepared(&original::answer(site, &case)).rows.len();
-    let here = prepare(&case).1.places[0];
-    let fine = explained(site, &case, 2) && rust == 2 && here == 1;
-    vec![seen(
-        2,
-        "HEAD absent, refs/heads/HEAD a link, HEAD updated with deref",
-        format!("makes {rust} rows"),
-        format!("{here} is made"),
-        fine,
-    )]
+    let pairs = [
+        ["HEAD", "refs/heads/HEAD"],
+        ["HEAD", "refs/HEAD"],
+        ["HEAD", "refs/tags/HEAD"],
+        ["HEAD", "refs/remotes/HEAD"],
+        ["HEAD", "refs/remotes/HEAD/HEAD"],
+        ["ORIG_HEAD", "refs/heads/ORIG_HEAD"],
+    ];
+    let one = |[short, long]: [&str; 2]| {
+        let case = store(1, &[short, long, "refs/heads/main"]).loose(1, link(2)).edit(update(0, object(7)).deref());
+        let rust = prepared(&original::answer(site, &case)).rows.len();
+        let here = prepare(&case).1.places[0];
+        let fine = explained(site, &case, 2) && rust == 2 && here == 1;
+        let input = format!("{short} absent, {long} a link, {short} updated with deref");
+        seen(2, &input, format!("makes {rust} rows"), format!("{here} is made"), fine)
+    };
+    pairs.map(one).into_iter().collect()
 }
 
 /// The text that a part of the Rust panics with.
