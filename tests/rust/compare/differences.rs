@@ -1,7 +1,7 @@
 //! The known differences, as predicates written from docs/DIFFERENCES.md. Outside of them nothing may differ.
 
-use crate::answer::{Answer, Row};
-use crate::case::{packable, Case, Edit, Loose, Target};
+use crate::answer::{Answer, Prepared, Row};
+use crate::case::{packable, Case, Edit, End, Loose, Target};
 use std::collections::BTreeSet;
 
 /// How far a case had come when the two sides differed.
@@ -15,10 +15,10 @@ pub enum Stage {
     End,
 }
 
-/// The number of the difference that explains why the sides differ at a stage.
+/// The number of the difference that explains why the sides differ at a stage. For 1 that is so only in a commit that was
+/// stopped: in others the difference is put right before (`mended`), and nothing may be left of it.
 pub fn explains(case: &Case, rust: &Answer, stage: Stage) -> Option<usize> {
-    let rows = rust.prepared.as_ref().map_or(&[][..], |prepared| &prepared.rows);
-    if stage > Stage::Prepare && rows.iter().any(|row| direct_and_unpackable(case, row)) {
+    if stage > Stage::Prepare && rust.prepared.as_ref().is_some_and(|prepared| stopped_in_mode_3(case, prepared)) {
         return Some(1);
     }
     if case.edits.iter().any(|edit| found_by_partial_name(case, edit)) {
@@ -30,13 +30,30 @@ pub fn explains(case: &Case, rust: &Answer, stage: Stage) -> Option<usize> {
     None
 }
 
+/// 1, where the commit was stopped, or would be if it wrote what it loses.
+fn stopped_in_mode_3(case: &Case, prepared: &Prepared) -> bool {
+    let End::Commit { allowance, .. } = case.end else { return false };
+    let stopped = prepared.end.number != 0 || prepared.steps.len() as u64 + prepared.rows.len() as u64 > allowance;
+    stopped && meets_1(case, prepared)
+}
+
+/// Whether a row is one of difference 1.
+pub fn meets_1(case: &Case, prepared: &Prepared) -> bool {
+    prepared.rows.iter().any(|row| direct_and_unpackable(case, row))
+}
+
 /// 1: in mode 3 a row updates a name that cannot be packed to an object. A log-only row is of that kind only if nothing changes:
 /// then its lock is kept.
-fn direct_and_unpackable(case: &Case, row: &Row) -> bool {
-    let [name, kind, log_only, _, _, expected, expected_kind, expected_number, new_kind, new_number, ..] = *row;
-    let unchanged = expected == 3 && (expected_kind, expected_number) == (new_kind, new_number);
+pub fn direct_and_unpackable(case: &Case, row: &Row) -> bool {
+    let [name, kind, log_only, _, _, _, _, _, new_kind, ..] = *row;
     let update_to_object = kind == 1 && new_kind == 1;
-    case.mode == 3 && update_to_object && !packable(&case.store.names[name as usize]) && (log_only == 0 || unchanged)
+    case.mode == 3 && update_to_object && !packable(&case.store.names[name as usize]) && (log_only == 0 || unchanged(row))
+}
+
+/// Whether a row's new target is there already.
+pub fn unchanged(row: &Row) -> bool {
+    let [_, _, _, _, _, expected, expected_kind, expected_number, new_kind, new_number, ..] = *row;
+    expected == 3 && (expected_kind, expected_number) == (new_kind, new_number)
 }
 
 /// 2: an edit with deref set leads to a name outside of `refs/` that has no loose value, and one of the names that it is

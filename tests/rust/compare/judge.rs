@@ -5,6 +5,7 @@ use crate::archive;
 use crate::case::{Case, End, Target};
 use crate::differences::{self, Stage};
 use crate::image::{self, Transaction};
+use crate::mended;
 use crate::original::{self, Odd};
 use crate::site::Site;
 
@@ -28,7 +29,7 @@ pub enum Care {
 /// Compares the two sides on a case.
 pub fn judge(site: &Site, case: &Case, care: Care) -> (Answer, Verdict) {
     let rust = original::answer(site, case);
-    let verdict = verdict(case, &rust, compare(case, &rust, care));
+    let verdict = verdict(case, &rust, |rust| compare(case, rust, care));
     (rust, verdict)
 }
 
@@ -38,7 +39,7 @@ pub fn judge_stops(site: &Site, case: &Case, writes: u64) -> Vec<(Case, Verdict)
     let stopped = (0..=writes).map(|allowance| Case { end: End::Commit { committer, allowance }, ..case.clone() });
     let judged = stopped.map(|case| {
         let rust = original::answer(site, &case);
-        let verdict = verdict(&case, &rust, compare_once(&case, &rust).map(drop));
+        let verdict = verdict(&case, &rust, |rust| compare_once(&case, rust).map(drop));
         (case, verdict)
     });
     judged.collect()
@@ -47,7 +48,7 @@ pub fn judge_stops(site: &Site, case: &Case, writes: u64) -> Vec<(Case, Verdict)
 /// Lets others lock all that is free between prepare and the end, on both sides: that changes nothing but those locks.
 pub fn judge_locked(site: &Site, case: &Case) -> Verdict {
     let rust = original::answer_oddly(site, case, Odd { locked_between: true, ..Odd::default() });
-    verdict(case, &rust, compare_locked(case, &rust))
+    verdict(case, &rust, |rust| compare_locked(case, rust))
 }
 
 fn compare_locked(case: &Case, rust: &Answer) -> Outcome {
@@ -65,13 +66,18 @@ fn compare_locked(case: &Case, rust: &Answer) -> Outcome {
     same_region(Stage::End, &image::encode(&case.store, &prepared.after, None), &region)
 }
 
-fn verdict(case: &Case, rust: &Answer, outcome: Outcome) -> Verdict {
-    match outcome {
-        Ok(()) => Verdict::Same,
-        Err((stage, text)) => match differences::explains(case, rust, stage) {
-            Some(number) => Verdict::Known(number),
-            None => Verdict::Differs(text),
-        },
+/// What a comparison with the Rust's answer says, or with that answer put right where difference 1 is met.
+fn verdict(case: &Case, rust: &Answer, compare: impl Fn(&Answer) -> Outcome) -> Verdict {
+    let Err(found) = compare(rust) else { return Verdict::Same };
+    let mended = mended::mended(case, rust);
+    let (stage, text) = match mended.as_ref().map(compare) {
+        Some(Ok(())) => return Verdict::Known(1),
+        Some(Err(left)) => left,
+        None => found,
+    };
+    match differences::explains(case, rust, stage) {
+        Some(number) => Verdict::Known(number),
+        None => Verdict::Differs(text),
     }
 }
 

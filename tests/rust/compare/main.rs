@@ -10,6 +10,7 @@ mod doubles;
 mod git;
 mod image;
 mod judge;
+mod mended;
 mod named;
 mod original;
 mod product;

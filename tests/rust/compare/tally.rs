@@ -44,7 +44,7 @@ impl Tally {
     pub fn try_case_and_stops(&mut self, site: &Site, case: &Case) {
         let rust = self.try_case(site, case, Care::Reads);
         let Some(prepared) = rust.prepared else { return };
-        if !differences::has_nested_names(case) {
+        if !differences::has_nested_names(case) && !differences::meets_1(case, &prepared) {
             self.locked += 1;
             let verdict = judge::judge_locked(site, case);
             self.count(site, case, verdict);
