@@ -1,0 +1,173 @@
+//! The comparison of one case: both sides answer it, and every number, extra, row, lock, value and line must be the same.
+
+use crate::answer::{Answer, Prepared, Reply};
+use crate::archive;
+use crate::case::{Case, End, Target};
+use crate::differences::{self, Stage};
+use crate::image::{self, Transaction};
+use crate::mended;
+use crate::original::{self, Odd};
+use crate::site::Site;
+
+pub enum Verdict {
+    Same,
+    Known(usize),
+    Differs(String),
+}
+
+type Outcome = Result<(), (Stage, String)>;
+
+/// How much is compared beside the answers themselves.
+#[derive(Clone, Copy, PartialEq, Eq)]
+pub enum Care {
+    /// Every stop too, where the Rust's side is its own list of writes.
+    Stops,
+    /// Besides, the store is also made by calls, and everything is read by calls.
+    Reads,
+}
+
+/// Compares the two sides on a case.
+pub fn judge(site: &Site, case: &Case, care: Care) -> (Answer, Verdict) {
+    let rust = original::answer(site, case);
+    let verdict = verdict(case, &rust, |rust| compare(case, rust, care));
+    (rust, verdict)
+}
+
+/// Runs the Rust once for each stop, and compares what it really leaves.
+pub fn judge_stops(site: &Site, case: &Case, writes: u64) -> Vec<(Case, Verdict)> {
+    let End::Commit { committer, .. } = case.end else { return Vec::new() };
+    let stopped = (0..=writes).map(|allowance| Case { end: End::Commit { committer, allowance }, ..case.clone() });
+    let judged = stopped.map(|case| {
+        let rust = original::answer(site, &case);
+        let verdict = verdict(&case, &rust, |rust| compare_once(&case, rust).map(drop));
+        (case, verdict)
+    });
+    judged.collect()
+}
+
+/// Lets others lock all that is free between prepare and the end, on both sides: that changes nothing but those locks.
+pub fn judge_locked(site: &Site, case: &Case) -> Verdict {
+    let rust = original::answer_oddly(site, case, Odd { locked_between: true, ..Odd::default() });
+    verdict(case, &rust, |rust| compare_locked(case, rust))
+}
+
+fn compare_locked(case: &Case, rust: &Answer) -> Outcome {
+    let mut region = image::encode(&case.store, &case.store.state, None);
+    same_reply(Stage::Prepare, &rust.reply, archive::prepare(&mut region, &case.edits, case.mode))?;
+    let Some(prepared) = &rust.prepared else { return Ok(()) };
+    for name in 0..case.store.names.len() {
+        let free = !prepared.ours[name] && !case.store.state.locks[name];
+        let reply = Reply::new(if free { 0 } else { 20 }, &[]);
+        same_reply(Stage::Locks, &reply, archive::lock_name(&mut region, name))?;
+    }
+    let free = !prepared.ours_packed && !case.store.state.packed_lock;
+    same_reply(Stage::Locks, &Reply::new(if free { 0 } else { 20 }, &[]), archive::lock_packed(&mut region))?;
+    same_reply(Stage::End, &prepared.end, archive::end(&mut region, case))?;
+    same_region(Stage::End, &image::encode(&case.store, &prepared.after, None), &region)
+}
+
+/// What a comparison with the Rust's answer says, or with that answer put right where difference 1 is met.
+fn verdict(case: &Case, rust: &Answer, compare: impl Fn(&Answer) -> Outcome) -> Verdict {
+    let Err(found) = compare(rust) else { return Verdict::Same };
+    let mended = mended::mended(case, rust);
+    let (stage, text) = match mended.as_ref().map(compare) {
+        Some(Ok(())) => return Verdict::Known(1),
+        Some(Err(left)) => left,
+        None => found,
+    };
+    match differences::explains(case, rust, stage) {
+        Some(number) => Verdict::Known(number),
+        None => Verdict::Differs(text),
+    }
+}
+
+fn compare(case: &Case, rust: &Answer, care: Care) -> Outcome {
+    if care == Care::Reads {
+        if let Some(region) = archive::by_calls(&case.store) {
+            same_region(Stage::Prepare, &image::encode(&case.store, &case.store.state, None), &region)?;
+        }
+    }
+    let (prepared_region, after) = compare_once(case, rust)?;
+    let Some(prepared) = &rust.prepared else { return Ok(()) };
+    compare_stops(case, prepared, &prepared_region)?;
+    if care == Care::Reads {
+        compare_rows(prepared, &prepared_region)?;
+        compare_reads(case, prepared, &after)?;
+    }
+    Ok(())
+}
+
+/// Compares the two calls. It hands back the region between them and the one after both.
+fn compare_once(case: &Case, rust: &Answer) -> Result<(Vec<u8>, Vec<u8>), (Stage, String)> {
+    let store = &case.store;
+    let before = image::encode(store, &store.state, None);
+    let mut region = before.clone();
+    same_reply(Stage::Prepare, &rust.reply, archive::prepare(&mut region, &case.edits, case.mode))?;
+    let Some(prepared) = &rust.prepared else {
+        same_region(Stage::Prepare, &before, &region)?;
+        return Ok((region.clone(), region));
+    };
+    let Prepared { rows, ours, ours_packed, .. } = prepared;
+    let transaction = Transaction { mode: case.mode, rows, ours, ours_packed: *ours_packed };
+    let expected = image::encode(store, &store.state, Some(&transaction));
+    if let Some(text) = image::difference_of_rows(&expected, &region) {
+        return Err((Stage::Prepare, text));
+    }
+    same_region(Stage::Locks, &expected, &region)?;
+    let between = region.clone();
+    same_reply(Stage::End, &prepared.end, archive::end(&mut region, case))?;
+    same_region(Stage::End, &image::encode(store, &prepared.after, None), &region)?;
+    Ok((between, region))
+}
+
+/// Every stop: after so many writes of the Rust's list, that state and no other.
+fn compare_stops(case: &Case, prepared: &Prepared, region: &[u8]) -> Outcome {
+    let End::Commit { committer, .. } = case.end else { return Ok(()) };
+    let mut state = case.store.state.clone();
+    for (made, step) in prepared.steps.iter().enumerate() {
+        let mut region = region.to_vec();
+        let reply = Reply::new(17, &[made as u64]);
+        same_reply(Stage::End, &reply, archive::commit(&mut region, committer, made as u64))?;
+        same_region(Stage::End, &image::encode(&case.store, &state, None), &region)?;
+        step.apply(&mut state);
+    }
+    Ok(())
+}
+
+fn compare_rows(prepared: &Prepared, region: &[u8]) -> Outcome {
+    for (place, row) in prepared.rows.iter().enumerate() {
+        let read = archive::read_row(region, place);
+        if read.number != 0 || read.places[..13] != row[..] || read.places[13..] != [0; 3] {
+            return Err((Stage::Prepare, format!("row {place} reads {read:?}")));
+        }
+    }
+    same_reply(Stage::Prepare, &Reply::new(22, &[]), archive::read_row(region, prepared.rows.len()))
+}
+
+fn compare_reads(case: &Case, prepared: &Prepared, region: &[u8]) -> Outcome {
+    for name in 0..case.store.names.len() {
+        let value = Target::numbers(prepared.after.read(name));
+        same_reply(Stage::End, &Reply::new(0, &value), archive::read_name(region, name))?;
+        let lines = prepared.after.lines.iter().filter(|line| line.name == name);
+        let mut count = 0;
+        for (place, line) in lines.enumerate() {
+            let reply = Reply::new(0, &[line.previous, line.new, line.committer.into(), line.message.into()]);
+            same_reply(Stage::End, &reply, archive::read_line(region, name, place))?;
+            count = place + 1;
+        }
+        same_reply(Stage::End, &Reply::new(22, &[]), archive::read_line(region, name, count))?;
+    }
+    Ok(())
+}
+
+fn same_reply(stage: Stage, rust: &Reply, archive: archive::Reported) -> Outcome {
+    if archive.is(rust) {
+        return Ok(());
+    }
+    let (number, places) = (archive.number, archive.places);
+    Err((stage, format!("{stage:?}: the Rust answers {} {:?}, the archive {number} {places:?}", rust.number, rust.places)))
+}
+
+fn same_region(stage: Stage, rust: &[u8], archive: &[u8]) -> Outcome {
+    image::difference(rust, archive).map_or(Ok(()), |text| Err((stage, format!("{stage:?}: {text}"))))
+}
