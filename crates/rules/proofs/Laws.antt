@@ -115,20 +115,6 @@ module _ (s : Store) (n : NameNumber) (name : List ℕ) (b : Bool) (e : name ≡
         let z : finePacked (entryOf s n .name) (entryOf s n .packed) ≡ d = ap₂ finePacked (sym e) (sym i) ∙ sym j in
         rw (x, y, z) (sym (and-true d))
 
--- ---- names are apart
-
-module _ (s : Store) (n m : ℕ) (x y : NameNumber) (a b : List ℕ) (t : Bool) (f : x ≡ record { 0 = n }) (g : y ≡ record { 0 = m })
-    (p : a ≡ entryOf s x .name) (q : b ≡ entryOf s y .name) (e : t ≡ sameList a b) where
-  same-names : apartNames s n m ≡ not t
-  same-names =
-      ap not (ap₂ (λ (x y : NameNumber). sameList (nameOf s x) (nameOf s y)) (sym f) (sym g) ∙ ap₂ sameList (sym p) (sym q) ∙ sym e)
-
-  pub name-more : below m (apartNames s n) ≡ true → t ≡ false → below (m + 1) (apartNames s n) ≡ true
-  name-more h u = below-more m (apartNames s n) h (same-names ∙ ap not u)
-
-  pub name-stop : m < n → t ≡ true → false ≡ below n (apartNames s n)
-  name-stop h u = sym (below-false n (apartNames s n) m h (same-names ∙ ap not u))
-
 -- ---- lines
 
 pub line-name : (n : ℕ) (l : Line) (k : ℕ) → k ≡ l .name .0 → n ≤ k → false ≡ fineLine n l
