@@ -3,7 +3,7 @@
  * docs/SPEC.md says what the calls mean, docs/ABI.md how to use them, docs/LAYOUT.md what stands in the region.
  *
  * Every call takes the region first, then its own arguments, then the answer record, each run of bytes as a pointer and a
- * length. It returns a number: DEHLBAZIN_DONE, or the reason of a refusal. A refused call changes no byte of the region. Two
+ * length. These are all fifteen calls of docs/SPEC.md. Each returns a number: DEHLBAZIN_DONE, or the reason of a refusal. A refused call changes no byte of the region. Two
  * numbers are neither: with DEHLBAZIN_NO_COMMITTER and DEHLBAZIN_USED_UP dehlbazin_commit has stopped on its way, and what it
  * wrote until then stays.
  *
@@ -48,7 +48,7 @@
 #define DEHLBAZIN_ANSWER_SIZE 128
 
 /* ---- the numbers that calls return. 4 to 14 are given by prepare alone, and 5 by nothing: no list comes to more than 160
- * rows. 16 and 17 are given by commit alone, which has then stopped between two writes: they are no refusals. */
+ * rows. 16 and 17 are given by commit alone, which has then stopped before a write: they are no refusals. */
 
 #define DEHLBAZIN_DONE 0
 #define DEHLBAZIN_BAD_REGION 1                   /* the region is not a good one, or the record has the wrong size */
@@ -309,7 +309,7 @@ uint32_t dehlbazin_prepare(uint8_t *region, size_t region_len, const uint8_t *li
  * its new one, never a third, and every other name reads as before.
  * committer: 1 to 65535, who stands in the log lines; 0 says that there is none, which does where no line is due.
  * allowance: how many writes may be made at most. Every number is one; UINT64_MAX is always enough.
- * refused, and the transaction stays prepared: 15 nothing is prepared; 2 the committer is above 65535.
+ * refused: 15 nothing is prepared; 2 the committer is above 65535, and the transaction stays prepared.
  * stopped before a write, in this order: 17 the allowance is used up; 16 the write is a log line, and there is no committer.
  * places: 0 how many writes were made, of 16 and 17 too. */
 uint32_t dehlbazin_commit(uint8_t *region, size_t region_len, uint64_t committer, uint64_t allowance, uint8_t *answer,

@@ -26,7 +26,7 @@ int main(int count, char **words)
     std::setvbuf(stdout, nullptr, _IOLBF, 0);
     auto number = [&](int i, unsigned long usual) { return count > i ? std::strtoul(words[i], nullptr, 10) : usual; };
     unsigned long every = number(1, 1), sequences = number(2, SEQUENCES), seed = number(3, SEED);
-    if (count > 4 || every == 0) {
+    if (count > 4 || every == 0 || sequences == 0) {
         std::fprintf(stderr, "usage: %s [N [SEQUENCES [SEED]]], to turn over one bit of each N, and to make so many sequences\n",
                      words[0]);
         return 2;

@@ -1,6 +1,6 @@
 -- Demand 3 holds over bytes: the proofs of the statements of specs/Demand3.antt. Each is the model's, of the store that is seen in
 -- the region. Assumes nothing.
-use mathlib.Core.Path.{_≡_, ap, _∙_}
+use mathlib.Core.Path.{_≡_, refl, ap, _∙_}
 use mathlib.Core.Bool.{true}
 use mathlib.Core.Logic.{⊎-elim, inl, inr}
 use Prim.Native.Nat.{ℕ, _<_}
@@ -18,13 +18,14 @@ use Rattle.model.specs.Reply.Call.{commit}
 use Rattle.model.specs.Calls.{step}
 use Rattle.model.specs.Reached.{Reached, leaves}
 use Rattle.model.specs.Numbers.{optionPlaces}
-use Rattle.model.specs.Demand3.{refs, reported, by, beforeLine}
+use Rattle.model.specs.Demand3.{refs, reported, by, beforeLine, old}
+use Rattle.model.proofs.RowFacts.{held}
 use Rattle.model.proofs.Demand3 as model
 use Rattle.region.specs.Region.{view}
 use Rattle.calls.specs.Call.{outOf}
-use Rattle.calls.specs.Demand3.{filled, preparedRow, RegionA, RegionB, RegionC₁, RegionC₂, RegionD, RegionE, RegionF₁, RegionF₂}
-use Rattle.calls.proofs.Answered.{new-fits, reads-of}
-use Rattle.calls.proofs.Ended.{reports, done-by, unsigned-by}
+use Rattle.calls.specs.Demand3.{filled, preparedRow, RegionA, RegionB, RegionOld, RegionC₁, RegionC₂, RegionD, RegionE, RegionF₁, RegionF₂}
+use Rattle.calls.proofs.Answered.{new-fits, reads-to, reads-of}
+use Rattle.calls.proofs.Ended.{numbered, reports, done-by, unsigned-by}
 use Rattle.calls.proofs.Stopped.{before, after, ruled, answered, left-by, stop-reads, row-reads, row-reading}
 
 -- a: the first k writes, and the count
@@ -35,6 +36,7 @@ region-a c k r n a r′ x h =
     record {
       before = before x .0;
       after = after x .0;
+      number = answered x .code ∙ numbered (view r) (x .prepared) c k h;
       count = answered x .answer ∙ reports (view r) (x .prepared) c k _ (m .count);
       refs = ap refs (left-by x) ∙ m .refs;
       logs = ap (λ (s : Store). s .lines) (left-by x) ∙ m .logs;
@@ -53,7 +55,11 @@ region-b c k r n a r′ x m outside t reads =
     stop-reads x m (o .0) t
     (ap (λ (v : OptionTarget). filled (optionPlaces v)) (model.b (view r) (before x .1) (x .prepared) c k m outside) ∙ o .1)
 
--- c: old or new, and never back
+-- c: old before, then old or new, and never back
+pub region-old : RegionOld
+region-old c k r n a r′ x i h =
+    reads-to r (before x .0) (nameIn (preparedRow r i)) (held (view r) (ruled x) i h) (old (view r) (preparedRow r i)) refl
+
 pub region-c₁ : RegionC₁
 region-c₁ c k r n a r′ x i h =
     ⊎-elim (λ e. inl (row-reads x i h e)) (λ e. inr (row-reads x i h e)) (model.c₁ (view r) (before x .1) (x .prepared) c k i h)

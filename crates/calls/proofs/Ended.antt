@@ -1,13 +1,13 @@
 -- What the reply to a commit of a prepared transaction says, by its number and its report. Assumes nothing.
 use mathlib.Core.Path.{_≡_, refl, sym, ap, _∙_, subst}
-use mathlib.Core.Bool.{Bool, true, false}
+use mathlib.Core.Bool.{Bool, true, false, _&&_}
 use mathlib.Core.List.{List, [], _∷_}
 use mathlib.Core.Option.{Option, none, some}
-use Prim.Native.Nat.{ℕ, _<_}
+use Prim.Native.Nat.{ℕ, _≤_, _<_}
 use native.Mathlib.Omega.{arith}
 use lib.ListN.{length, take}
-use lib.Dec.{eqb, ltb}
-use borrow.Author.Tests.{ltb-true, ltb-false, eqb-true}
+use lib.Dec.{eqb, ltb, leb}
+use borrow.Author.Tests.{ltb-true, ltb-false, lt-ltb, le-ltb, le-leb, lt-leb, eqb-true}
 use Rattle.model.specs.declared.Refusal.the-variants.{Malformed}
 use Rattle.model.specs.Store.{Store, count, isPrepared}
 use Rattle.model.specs.Writes.{Write, writes, apply}
@@ -20,13 +20,13 @@ use Rattle.model.specs.Calls.{step, ended}
 use Rattle.model.specs.Reached.{leaves}
 use Rattle.model.specs.Numbers.{answerOf, refusalAnswer}
 use Rattle.model.specs.Demand3.{by, applyAll, commitWrites, stopAt, reported}
-use Rattle.model.proofs.Stops.{permitted, permitted-is, run-store, run-unsigned}
+use Rattle.model.proofs.Stops.{permitted, permitted-is, run-store, run-whole, run-unsigned, run-used}
 use Rattle.model.proofs.Commits.{commit-runs, commit-refuses}
 use Rattle.model.proofs.Base.{released-count}
 use Rattle.model.proofs.KeptCommit.{apply-count}
 use Rattle.region.specs.Region.{nameOffset}
 use Rattle.answers.specs.Answers.{recordOf}
-use Rattle.calls.specs.Demand3.{filled}
+use Rattle.calls.specs.Demand3.{filled, numberAt}
 
 -- writes add no name and remove none
 applied-count : (ws : List Write) (s : Store) → count (applyAll ws s) ≡ count s
@@ -71,6 +71,45 @@ module _ (s : Store) (p : isPrepared (s .prepared) ≡ true) (c k : ℕ) where
       go : (why : Option Stop) → ran .stop ≡ why → count (leaves (ended ran why) s) ≡ count s
       go none e = names
       go (some w) e = names
+
+  -- the number says why it ended
+  pub numbered : c ≤ 65535 → answerOf nameOffset (step (commit c k) s) .number ≡ numberAt c k s
+  unfolding committing answerOf
+  numbered h = ap (λ (reply : Reply). answerOf nameOffset reply .number) (commit-runs s p c k h) ∙ go (ran .stop) refl
+    where
+      may : permitted (by c) (writes (by c) s) ≡ commitWrites c s
+      may = permitted-is c s
+
+      n : ℕ
+      n = length (commitWrites c s)
+
+      m : ℕ
+      m = length (writes (by c) s)
+
+      many : n ≡ length (permitted (by c) (writes (by c) s))
+      many = ap length (sym may)
+
+      and-false : (b : Bool) → (b && false) ≡ false
+      and-false true = refl
+      and-false false = refl
+
+      go : (why : Option Stop) → ran .stop ≡ why → answerOf nameOffset (ended ran why) .number ≡ numberAt c k s
+      go none e =
+          let w = run-whole (by c) k (writes (by c) s) 0 s e in
+          let l : m ≤ k = w .1 in
+          let a : n ≡ m = ap length (sym may ∙ w .0) in
+          rw (le-ltb k m l, and-false (leb k n), le-ltb n m (omega arith))
+      go (some noCommitter) e =
+          let u = run-unsigned (by c) k (writes (by c) s) 0 s e in
+          let b : length (permitted (by c) (writes (by c) s)) < k = u .0 in
+          let d : length (permitted (by c) (writes (by c) s)) < m = u .1 in
+          let e : n ≡ length (permitted (by c) (writes (by c) s)) = many in
+          rw (lt-leb k n (omega arith), lt-ltb n m (omega arith))
+      go (some usedUp) e =
+          let u = run-used (by c) k (writes (by c) s) 0 s e in
+          let b : k ≤ length (permitted (by c) (writes (by c) s)) = u .0 in
+          let e : n ≡ length (permitted (by c) (writes (by c) s)) = many in
+          rw (le-leb k n (omega arith), lt-ltb k m (u .1))
 
   -- what it reports stands in the record's first place
   pub reports : (m : ℕ) → Reports m (step (commit c k) s)

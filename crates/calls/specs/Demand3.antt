@@ -1,12 +1,13 @@
 -- Demand 3 over bytes, sentence by sentence: of every region that is got from any bytes by a start and any calls, with a
 -- transaction prepared, and of every result that keeps commit's contract there. The proofs stand in proofs/Demand3.antt.
 use mathlib.Core.Path.{_≡_}
-use mathlib.Core.Bool.{true, false}
+use mathlib.Core.Bool.{true, false, _&&_, cond}
 use mathlib.Core.List.{List, [], _∷_}
 use mathlib.Core.Logic.{_⊎_}
 use mathlib.Core.Option.{none, some}
 use Prim.Native.Nat.{ℕ, _≤_, _<_, min}
 use lib.ListN.{length, take}
+use lib.Dec.{ltb, leb}
 use Rattle.target.specs.declared.NameNumber.{NameNumber}
 use Rattle.target.specs.declared.OptionTarget.{OptionTarget}
 use Rattle.target.specs.declared.OptionTarget.the-variants.{Absent}
@@ -14,7 +15,7 @@ use Rattle.transaction.specs.declared.Edit.{Edit}
 use Rattle.transaction.specs.Change.{isDelete}
 use Rattle.transaction.specs.Fields.{packedRefsNumber}
 use Rattle.model.specs.declared.Lock.the-variants.{Foreign, Ours}
-use Rattle.model.specs.Store.{entryAt, linesOf, modeIn, isPrepared, isLock}
+use Rattle.model.specs.Store.{Store, entryAt, linesOf, modeIn, isPrepared, isLock}
 use Rattle.model.specs.Rows.{nameIn, changeIn, rowAt}
 use Rattle.model.specs.Writes.{writes}
 use Rattle.model.specs.Reply.Call.{commit, readName}
@@ -36,7 +37,7 @@ pub record Committed (c k : ℕ) (r : List ℕ) (n : ℕ) (a r′ : List ℕ) : 
   pub sized : length lent ≡ 128
   pub did : Did (call (commit c k) r lent) n a (r′ ∷ [])
 
--- the record that a done call fills with these places
+-- the record with these places, and zeros behind them
 abbrev pub filled : List ℕ → List ℕ
 filled places = recordOf (answer 0 places .places)
 
@@ -45,21 +46,28 @@ pub record Reads (n : ℕ) (r : List ℕ) (t : OptionTarget) : Type 0 where
   pub read : (lent : List ℕ) (m : ℕ) (a r′ : List ℕ) → length lent ≡ 128 → Did (call (readName n) r lent) m a (r′ ∷ [])
       → (m ≡ 0) × (a ≡ filled (optionPlaces t)) × (r′ ≡ r)
 
--- the rows of a region, and one row's name
+-- the rows of a region, and one of them
 abbrev pub preparedRows : List ℕ → List Edit
 preparedRows r = rows (view r)
 
 abbrev pub preparedRow : List ℕ → ℕ → Edit
 preparedRow r i = rowAt (preparedRows r) i
 
+-- 17 where the allowance is used up and a write is left; else 16 where a log line is left that has no committer; else 0
+abbrev pub numberAt : ℕ → ℕ → Store → ℕ
+numberAt c k s =
+    cond (leb k (length (commitWrites c s)) && ltb k (length (writes (by c) s))) 17
+    (cond (ltb (length (commitWrites c s)) (length (writes (by c) s))) 16 0)
+
 -- ---- a
 
 -- Both regions hold stores. The second has the refs and logs from before with exactly the first k of the ordered writes made, or
 -- all where there are fewer; the setting as it was, nothing prepared and our locks free, other locks as they were. The record's
--- first place has the count of the writes made.
-pub record StoppedRegion (c k : ℕ) (r a r′ : List ℕ) : Type 0 where
+-- first place has the count of the writes made, and the number says why there are no more.
+pub record StoppedRegion (c k : ℕ) (r : List ℕ) (n : ℕ) (a r′ : List ℕ) : Type 0 where
   pub before : decode r ≡ some (view r)
   pub after : decode r′ ≡ some (view r′)
+  pub number : n ≡ numberAt c k (view r)
   pub count : a ≡ filled (min k (length (commitWrites c (view r))) ∷ [])
   pub refs : refs (view r′) ≡ refs (applyAll (take k (commitWrites c (view r))) (view r))
   pub logs : view r′ .lines ≡ applyAll (take k (commitWrites c (view r))) (view r) .lines
@@ -71,7 +79,7 @@ pub record StoppedRegion (c k : ℕ) (r a r′ : List ℕ) : Type 0 where
   pub packedForeign : isLock Foreign (view r′ .packedLock) ≡ isLock Foreign (view r .packedLock)
 
 abbrev pub RegionA : Type 0
-RegionA = (c k : ℕ) (r : List ℕ) (n : ℕ) (a r′ : List ℕ) → Committed c k r n a r′ → c ≤ 65535 → StoppedRegion c k r a r′
+RegionA = (c k : ℕ) (r : List ℕ) (n : ℕ) (a r′ : List ℕ) → Committed c k r n a r′ → c ≤ 65535 → StoppedRegion c k r n a r′
 
 -- ---- b
 
@@ -83,6 +91,12 @@ RegionB =
     → (t : OptionTarget) → Reads (m .0) r t → Reads (m .0) r′ t
 
 -- ---- c
+
+-- Before the commit a name in the rows reads its old value.
+abbrev pub RegionOld : Type 0
+RegionOld =
+    (c k : ℕ) (r : List ℕ) (n : ℕ) (a r′ : List ℕ) → Committed c k r n a r′
+    → (i : ℕ) → i < length (preparedRows r) → Reads (nameIn (preparedRow r i) .0) r (old (view r) (preparedRow r i))
 
 -- A name in the rows reads its old value or its new value, and nothing else.
 abbrev pub RegionC₁ : Type 0

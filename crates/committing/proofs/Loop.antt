@@ -29,10 +29,10 @@ use Rattle.committing.proofs.Turned.{named-as, apart-as, either, turned
 
 -- ---- what the rules say of the rows
 
-pub fine-named : (s : Store) → Fine s → Named s
+fine-named : (s : Store) → Fine s → Named s
 fine-named s f = record { named = λ i h. held s f i h }
 
-pub fine-apart : (s : Store) → Fine s → Apart (rowsOf s)
+fine-apart : (s : Store) → Fine s → Apart (rowsOf s)
 fine-apart s f = record { apart = λ i j h g d e. alone s f j g i h d e }
 
 -- ---- the run so far, with the writes that are left, by the store as it is
@@ -86,7 +86,7 @@ module _ (c : ℕ) (z : Run) (r₀ : List ℕ) (left left′ : Store → List Wr
 
 -- ---- by places: p of them
 
--- every place of the region, and no more than bytes can count
+-- every place of the region: of 160 rows three each, and one
 pub record Many (r₀ : List ℕ) (p : ℕ) : Type 0 where
   pub places : p ≡ places (view r₀)
   pub few : p ≤ 481
@@ -97,7 +97,7 @@ pub record Before (c : ℕ) (z : Run) (r₀ : List ℕ) (p k : ℕ) (at : Ran) (
   pub all : Many r₀ p
   pub upto : k ≤ p
 
-pub record Between (c : ℕ) (z : Run) (r₀ : List ℕ) (p k : ℕ) (at : Ran) (r : List ℕ) : Type 0 where
+record Between (c : ℕ) (z : Run) (r₀ : List ℕ) (p k : ℕ) (at : Ran) (r : List ℕ) : Type 0 where
   pub on : On c z r₀ (λ s. secondAt s k ++ ahead (by c) s (suc k) (p - suc k)) (suc (k + k)) at r
   pub all : Many r₀ p
   pub upto : k < p

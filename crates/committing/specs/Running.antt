@@ -11,6 +11,7 @@ use Rattle.model.specs.Due.{Stamp}
 use Rattle.model.specs.Writes.{Write, apply}
 use Rattle.model.specs.Commit.{Run, Stop, run}
 use Rattle.model.specs.Commit.Stop.{noCommitter, usedUp}
+use Rattle.model.specs.Numbers.{stopNumber}
 use Rattle.slots.specs.Values.{FitsTarget, FitsLine}
 use Rattle.region.specs.Region.{view, Laid}
 use Rattle.rows.specs.Rows.{Named, Apart}
@@ -63,10 +64,12 @@ stopOf NoCommitter = some noCommitter
 stopOf UsedUp = some usedUp
 
 -- and the number that the caller gets
+abbrev pub numberOf : Option Stop → ℕ
+numberOf none = 0
+numberOf (some why) = stopNumber why
+
 abbrev pub haltNumber : Halt → ℕ
-haltNumber GoesOn = 0
-haltNumber NoCommitter = 16
-haltNumber UsedUp = 17
+haltNumber h = numberOf (stopOf h)
 
 -- the run that has come so far, with these writes before it
 abbrev pub onward : Stamp → Ran → Option Stop → List Write → Store → Run

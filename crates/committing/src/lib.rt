@@ -25,10 +25,6 @@ use answers::Answer;
 use answers::Verdict;
 use model::Line;
 use model::Loose;
-use model::Packed;
-use target::NameNumber;
-use target::Target;
-use transaction::Edit;
 use transaction::PackedRefs;
 use writes::OptionPackedEdit;
 use writes::OptionWrite;
@@ -155,7 +151,7 @@ fn wants_committer(next: OptionWrite, committer: u16) -> bool
 }
 
 // One turn: passed if the run has stopped or there is nothing to write; else allowance used up, 17; else a line without
-// committer, 16; else the write is made and counted.
+// committer, 16; else the write is made and counted. There are at most 481 places of two writes, so the count is far from its bound.
 fn turn(region: &mut [u8], committer: u16, next: OptionWrite, at: Ran) -> Ran
     requires { ⌜ Laid (now region) ⌝ }
     requires { ⌜ Makes (view (now region)) next ⌝ }

@@ -155,11 +155,11 @@ unsigned-stop s p k made t e =
     let u = run-unsigned (by 0) k (writes (by 0) s) 0 s (d .0) in
     let q : List Write = permitted (by 0) (writes (by 0) s) in
     let m : made ≡ min k (length q) = d .1 ∙ run-made (by 0) k (writes (by 0) s) 0 s ∙ omega arith in
-    let l : length q ≤ k = u .0 in
+    let l : length q < k = u .0 in
     let n : length q < length (writes (by 0) s) = u .1 in (
       ap (λ (j : ℕ). take j (writes (by 0) s)) m
           ∙ sym (take-permitted (by 0) k (writes (by 0) s))
-          ∙ take-all k q l
+          ∙ take-all k q (omega arith)
           ∙ permitted-is 0 s,
       omega arith,
     )

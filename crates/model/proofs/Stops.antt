@@ -12,7 +12,7 @@ use Rattle.model.specs.Store.{Store}
 use Rattle.model.specs.Due.{Stamp}
 use Rattle.model.specs.Writes.{Write, writes, apply}
 use Rattle.model.specs.Commit.{Run, isLine, run}
-use Rattle.model.specs.Commit.Stop.{noCommitter}
+use Rattle.model.specs.Commit.Stop.{noCommitter, usedUp}
 use Rattle.model.specs.Demand3.{beforeLine, commitWrites, applyAll, by}
 
 -- a log line needs a committer
@@ -75,18 +75,35 @@ run-whole stamp (suc a) (w ∷ ws) m s e = go (run-whole stamp a ws (m + 1) (app
         let l : length ws ≤ a = r .1 in
         (rw p (ap (λ (x : List Write). w ∷ x) (r .0)), omega arith)
 
--- stopped for want of a committer: every permitted write was made, and another stood next
+-- stopped for want of a committer: every permitted write was made, the allowance was not used up, and another write stood next
 pub run-unsigned : (stamp : Stamp) (a : ℕ) (ws : List Write) (m : ℕ) (s : Store)
-    → run stamp a ws m s .stop ≡ some noCommitter → (length (permitted stamp ws) ≤ a) × (length (permitted stamp ws) < length ws)
+    → run stamp a ws m s .stop ≡ some noCommitter → (length (permitted stamp ws) < a) × (length (permitted stamp ws) < length ws)
 unfolding run
 run-unsigned stamp a [] m s e = absurd (let z : _≡_ {A = ℕ} 0 1 = cc in omega arith)
 run-unsigned stamp zero (w ∷ ws) m s e = absurd (let z : _≡_ {A = ℕ} 0 1 = cc in omega arith)
 run-unsigned stamp (suc a) (w ∷ ws) m s e = go (run-unsigned stamp a ws (m + 1) (apply w s)) (stops stamp w) refl
   where
-    go : (run stamp a ws (m + 1) (apply w s) .stop ≡ some noCommitter → (length (permitted stamp ws) ≤ a) × (length (permitted stamp ws) < length ws))
+    go : (run stamp a ws (m + 1) (apply w s) .stop ≡ some noCommitter → (length (permitted stamp ws) < a) × (length (permitted stamp ws) < length ws))
         → (t : Bool) → stops stamp w ≡ t
-        → (length (permitted stamp (w ∷ ws)) ≤ suc a) × (length (permitted stamp (w ∷ ws)) < suc (length ws))
+        → (length (permitted stamp (w ∷ ws)) < suc a) × (length (permitted stamp (w ∷ ws)) < suc (length ws))
     go h true p = rw p (omega arith)
+    go h false p =
+        let r = h (sym (ap (λ (r : Run). r .stop) (run-goes stamp a w ws m s p)) ∙ e) in
+        rw p (omega arith)
+
+-- the allowance used up: so many permitted writes were made, and another write stood next
+pub run-used : (stamp : Stamp) (a : ℕ) (ws : List Write) (m : ℕ) (s : Store)
+    → run stamp a ws m s .stop ≡ some usedUp → (a ≤ length (permitted stamp ws)) × (a < length ws)
+unfolding run
+run-used stamp a [] m s e = absurd (let z : _≡_ {A = ℕ} 0 1 = cc in omega arith)
+run-used stamp zero (w ∷ ws) m s e = (omega arith, omega arith)
+run-used stamp (suc a) (w ∷ ws) m s e = go (run-used stamp a ws (m + 1) (apply w s)) (stops stamp w) refl
+  where
+    go : (run stamp a ws (m + 1) (apply w s) .stop ≡ some usedUp → (a ≤ length (permitted stamp ws)) × (a < length ws))
+        → (t : Bool) → stops stamp w ≡ t
+        → (suc a ≤ length (permitted stamp (w ∷ ws))) × (suc a < suc (length ws))
+    go h true p = absurd (let q : some noCommitter ≡ some usedUp = sym (ap (λ (r : Run). r .stop) (run-stops stamp a w ws m s p)) ∙ e in
+        let z : _≡_ {A = ℕ} 0 1 = cc in omega arith)
     go h false p =
         let r = h (sym (ap (λ (r : Run). r .stop) (run-goes stamp a w ws m s p)) ∙ e) in
         rw p (omega arith)

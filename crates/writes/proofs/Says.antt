@@ -11,7 +11,7 @@ use Rattle.target.specs.declared.ObjectNumber.{ObjectNumber}
 use Rattle.target.specs.declared.OptionTarget.{OptionTarget}
 use Rattle.target.specs.declared.OptionTarget.the-variants.{Absent, Present}
 use Rattle.target.specs.declared.Target.{Target}
-use Rattle.target.specs.declared.Target.the-variants.{Object, Symbolic}
+use Rattle.target.specs.declared.Target.the-variants.{Object}
 use Rattle.transaction.specs.declared.Change.{Change}
 use Rattle.transaction.specs.declared.Change.the-variants.{Update, Delete}
 use Rattle.transaction.specs.declared.PackedRefs.{PackedRefs}
@@ -119,9 +119,6 @@ delete-new (Delete expected log) e = refl
 pub set-object : (n : NameNumber) (new : OptionTarget) (t : Target) (oid : ObjectNumber) → new ≡ Present t → t ≡ Object oid
     → packedList n (Sets (packed.Object oid)) ≡ packedSet n new
 set-object n new t oid e f = rw (e, f)
-
-pub set-link : (n m : NameNumber) (new : OptionTarget) (t : Target) → new ≡ Present t → t ≡ Symbolic m → packedList n NoPackedEdit ≡ packedSet n new
-set-link n m new t e f = rw (e, f)
 
 module _ (s : Store) (mode : PackedRefs) (r : Edit) (c : Bool) (ec : c ≡ counts s r) where
   pub edit-none : not c ≡ true → packedList (nameIn r) NoPackedEdit ≡ packedEdit s mode r

@@ -190,7 +190,7 @@ module _ (stamp : Stamp) (s t : Store) (k : ℕ) (same : Same stamp s t k) where
       (λ i. w4 t (modeOf s) (theRow s i)) (λ i. w4 s (modeOf s) (theRow s i)) g
       (λ l. ap (map appendLine) (same .due j h l)) (λ i l e. same .two i (omega arith) l) (λ e. same .three (omega arith)) (λ i l e. same .four i (omega arith) l)
 
-  pub second-same : (j : ℕ) → k ≤ j → secondAt t j ≡ secondAt s j
+  second-same : (j : ℕ) → k ≤ j → secondAt t j ≡ secondAt s j
   unfolding secondAt
   second-same j h = ap (λ (p : Option Prepared). secondBy t (modeIn p) (rowsIn p) j) (same .rest) ∙ go (ltb j (length (rowsOf s))) refl
     where
