@@ -6,6 +6,9 @@ use Prim.Native.Nat.{ℕ, _+_, _<_, _≤_}
 use lib.ListN.{length}
 use lib.Dec.{eqb, leb}
 use borrow.Author.Tests.{not-true, not-false, le-leb, lt-leb}
+use lib.ListN.{getD}
+use native.Mathlib.Omega.{arith}
+use Rattle.word.specs.Flags.{Flags}
 use Rattle.target.specs.declared.NameNumber.{NameNumber}
 use Rattle.target.specs.Target.{sameName}
 use Rattle.transaction.specs.declared.PackedRefs.{PackedRefs}
@@ -62,6 +65,11 @@ module _ (s : Store) (mode : PackedRefs) (row : Edit) (n : NameNumber) (b : Bool
 pub lock-is : (s : Store) (n : NameNumber) (l : Lock) (x y : Bool) → l ≡ entryOf s n .lock → x ≡ isLock Ours l → y ≡ keptFor s (n .0) → Bool·beq x y ≡ fineLock s (n .0)
 unfolding fineLock
 lock-is s n l x y e h k = ap₂ Bool·beq (h ∙ ap (isLock Ours) e) k
+
+pub lock-flag : (s : Store) (n : NameNumber) (l : Lock) (x : Bool) (flags : List Bool) (k : ℕ) → l ≡ entryOf s n .lock → x ≡ isLock Ours l → Flags (keptFor s) flags
+    → k ≡ n .0 → n .0 < count s → count s ≤ 256 → Bool·beq x (getD flags k false) ≡ fineLock s (n .0)
+lock-flag s n l x flags k e h f ek below few =
+    lock-is s n l x (getD flags k false) e h (f .flag k (omega arith) ∙ ap (keptFor s) ek)
 
 pub packed-lock-is : (s : Store) (l : Lock) (x y : Bool) → l ≡ s .packedLock → x ≡ isLock Ours l → y ≡ opens s (modeIn (s .prepared)) (rowsIn (s .prepared)) → Bool·beq x y ≡ finePackedLock s
 packed-lock-is s l x y e h k = ap₂ Bool·beq (h ∙ ap (isLock Ours) e) k

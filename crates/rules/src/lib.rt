@@ -3,14 +3,15 @@ ghost use mathlib.Core.Path.{_≡_};
 ghost use mathlib.Core.Bool.{not};
 ghost use Prim.Native.Nat.{_+_, _<_, _≤_};
 ghost use lib.ListN.{length};
+ghost use Rattle.word.specs.Flags.{Flags, nowhere};
 ghost use Rattle.model.specs.Basic.{below};
 ghost use Rattle.model.specs.Store.{count, entryOf, rowsIn};
 ghost use Rattle.model.specs.Rows.{ancestors};
 ghost use Rattle.model.specs.Fine.{fineTarget, fineOption, fineLoose, finePacked, fineEntry, fineLine, fineParent, fineRow, apartNames, apartRows};
 ghost use Rattle.model.specs.Fine.{Upward, fineNames, fineLines, fineRows};
 ghost use Rattle.region.specs.Region.{view, Laid};
-ghost use Rattle.rules.specs.Tests.{nameTest, rowTest};
-ghost use Rattle.rules.specs.Marks.{markOf, Marked};
+ghost use Rattle.rules.specs.Tests.{nameTest};
+ghost use Rattle.rules.specs.Marks.{markOf, Marked, seen, Stood};
 use model::Line;
 use model::Loose;
 use model::Packed;
@@ -269,45 +270,35 @@ fn row_ok(region: &[u8], i: usize) -> bool
     count_ancestors(region, i) <= Edit::ANCESTORS
 }
 
-// No earlier row has the same name.
-fn row_apart(region: &[u8], i: usize) -> bool
-    requires { ⌜ Laid (now region) ⌝ }
-    requires { ⌜ i < length (rowsIn (view (now region) .prepared)) ⌝ }
-    ensures { λ r. ⌜ r ≡ below i (apartRows (rowsIn (view (now (region .entry)) .prepared)) i) ⌝ }
-{
-    let name = region::row_name(region, i);
-    let mut j: usize = 0;
-    while j < i {
-        let same = name.eq(region::row_name(region, j));
-        if same {
-            return false;
-        } else {
-            j += 1;
-        }
-    }
-    true
-}
-
-fn row_stands(region: &[u8], i: usize) -> bool
+// Its own rules, and a name that no earlier row has: the flags of the names seen so far tell. If it stands, its own flag goes up.
+fn row_stands(region: &[u8], i: usize, flags: &mut [bool]) -> bool
     requires { ⌜ Laid (now region) ⌝ }
     requires { ⌜ i < length (rowsIn (view (now region) .prepared)) ⌝ }
     requires { ⌜ Upward i (rowsIn (view (now region) .prepared)) ⌝ }
-    ensures { λ r. ⌜ r ≡ rowTest (view (now (region .entry))) i ⌝ }
+    requires { ⌜ Flags (seen (rowsIn (view (now region) .prepared)) i) (now flags) ⌝ }
+    ensures { λ r. ⌜ Stood (view (now (region .entry))) i r (now (flags .exit)) ⌝ }
 {
     if !row_ok(region, i) {
         return false;
     }
-    row_apart(region, i)
+    let name = region::row_name(region, i);
+    let n = name.place();
+    if flags[n] {
+        return false;
+    }
+    word::raise(flags, n);
+    true
 }
 
-pub fn rows_fine(region: &[u8]) -> bool
+fn flagged_rows_fine(region: &[u8], flags: &mut [bool]) -> bool
     requires { ⌜ Laid (now region) ⌝ }
+    requires { ⌜ Flags nowhere (now flags) ⌝ }
     ensures { λ r. ⌜ r ≡ fineRows (view (now (region .entry))) ⌝ }
 {
     let rows = region::count_rows(region);
     let mut i: usize = 0;
     while i < rows {
-        let ok = row_stands(region, i);
+        let ok = row_stands(region, i, flags);
         if ok {
             i += 1;
         } else {
@@ -315,4 +306,12 @@ pub fn rows_fine(region: &[u8]) -> bool
         }
     }
     true
+}
+
+pub fn rows_fine(region: &[u8]) -> bool
+    requires { ⌜ Laid (now region) ⌝ }
+    ensures { λ r. ⌜ r ≡ fineRows (view (now (region .entry))) ⌝ }
+{
+    let mut flags = [false; NameNumber::LIMIT];
+    flagged_rows_fine(region, &mut flags)
 }
