@@ -1,23 +1,26 @@
 -- Starts, turns and ends of the loops over rows and names; crate rows has those of the loops that look for one row. Assumes nothing.
 use mathlib.Core.Path.{_≡_, refl, sym, ap, _∙_}
-use mathlib.Core.Bool.{Bool, true, false, _&&_}
+use mathlib.Core.Bool.{Bool, true, false, _&&_, not, cond}
 use mathlib.Core.List.{List}
 use Prim.Native.Nat.{ℕ, suc, _+_, _<_, _≤_}
 use native.Mathlib.Numerals.{add-one}
 use native.Mathlib.Omega.{arith}
-use lib.ListN.{length, getD, drop, drop-of-length-le, length-append}
+use lib.ListN.{length, getD, set, drop, drop-of-length-le, length-append}
 use lib.Seq.{drop-cons}
 use lib.Dec.{eqb}
+use borrow.Author.Tests.{not-true, not-false}
+use Rattle.word.specs.Flags.{Flags, nowhere}
 use Rattle.word.proofs.Tests.{below-more, below-false}
 use Rattle.target.specs.declared.NameNumber.{NameNumber}
 use Rattle.transaction.specs.declared.PackedRefs.{PackedRefs}
 use Rattle.transaction.specs.declared.Edit.{Edit}
 use Rattle.model.specs.declared.Packed.{Packed}
 use Rattle.model.specs.Basic.{any, below, collect}
-use Rattle.model.specs.Store.{Store, Entry, noEntry, rowsIn, modeIn, isPacked}
-use Rattle.model.specs.Rows.{nameIn, counts, countsAsUpdate, keepsLock}
+use Rattle.model.specs.Store.{Store, Entry, noEntry, noRow, rowsIn, modeIn, isPacked}
+use Rattle.model.specs.Rows.{nameIn, rowAt, counts, countsAsUpdate, keepsLock}
 use Rattle.model.specs.Fine.{keptFor}
 use Rattle.rows.proofs.Laws.{any-here, any-more}
+use Rattle.rows.proofs.Gather.{Gathering, gather-start, gather-to, gather-end}
 use Rattle.kept.specs.Counting.{counting}
 
 module _ (update : Bool) (s : Store) (row : Edit) (z : Bool) where
@@ -27,10 +30,36 @@ module _ (update : Bool) (s : Store) (row : Edit) (z : Bool) where
   pub counts-any : update ≡ false → z ≡ counts s row → z ≡ counting update s row
   counts-any e h = rw e h
 
--- a row of a name keeps its lock, by the mode that is read
-pub kept-start : (s : Store) (n : ℕ) (mode : PackedRefs) → mode ≡ modeIn (s .prepared) → any (λ (r : Edit). eqb (nameIn r .0) n && keepsLock s mode r) (rowsIn (s .prepared)) ≡ keptFor s n
-unfolding keptFor
-kept-start s n mode e = rw e
+-- ---- the locks that rows keep, gathered
+
+abbrev pub ofRow : Edit → ℕ
+ofRow r = nameIn r .0
+
+module _ (s : Store) (mode : PackedRefs) (flags : List Bool) (i m : ℕ) (g : Gathering ofRow (keepsLock s mode) (rowsIn (s .prepared)) i flags) (e : m ≡ length (rowsIn (s .prepared))) where
+  pub rows-more : (flags′ : List Bool) → i < m → flags′ ≡ cond (keepsLock s mode (rowAt (rowsIn (s .prepared)) i)) (set flags (nameIn (rowAt (rowsIn (s .prepared)) i) .0) true) flags
+      → Gathering ofRow (keepsLock s mode) (rowsIn (s .prepared)) (i + 1) flags′
+  rows-more flags′ l h = gather-to ofRow (keepsLock s mode) (rowsIn (s .prepared)) noRow _ _ i m _ flags flags′ g e l refl refl refl h
+
+  pub rows-end : m ≤ i → mode ≡ modeIn (s .prepared) → Flags (keptFor s) flags
+  unfolding keptFor
+  rows-end l em =
+      gather-end ofRow (keepsLock s mode) (rowsIn (s .prepared)) (keptFor s) flags i m g e l
+      (λ n. ap (λ (mode : PackedRefs). any (λ (r : Edit). eqb (nameIn r .0) n && keepsLock s mode r) (rowsIn (s .prepared))) em)
+
+pub rows-start : (s : Store) (mode : PackedRefs) (flags : List Bool) → Flags nowhere flags → Gathering ofRow (keepsLock s mode) (rowsIn (s .prepared)) 0 flags
+rows-start s mode flags f = gather-start ofRow (keepsLock s mode) (rowsIn (s .prepared)) flags f
+
+module _ (s : Store) (mode : PackedRefs) (row : Edit) (i : ℕ) (b : Bool) (er : row ≡ rowAt (rowsIn (s .prepared)) i) (eb : b ≡ keepsLock s mode row) where
+  kept-is : keepsLock s mode (rowAt (rowsIn (s .prepared)) i) ≡ b
+  kept-is = ap (keepsLock s mode) (sym er) ∙ sym eb
+
+  pub row-passed : (flags : List Bool) → not b ≡ true
+      → flags ≡ cond (keepsLock s mode (rowAt (rowsIn (s .prepared)) i)) (set flags (nameIn (rowAt (rowsIn (s .prepared)) i) .0) true) flags
+  row-passed flags t = rw (kept-is ∙ not-true b t) refl
+
+  pub row-raised : (flags flags′ : List Bool) (k : ℕ) → not b ≡ false → k ≡ row .update .name .0 → flags′ ≡ set flags k true
+      → flags′ ≡ cond (keepsLock s mode (rowAt (rowsIn (s .prepared)) i)) (set flags (nameIn (rowAt (rowsIn (s .prepared)) i) .0) true) flags
+  row-raised flags flags′ k t ek h = rw (kept-is ∙ not-false b t) (h ∙ ap (λ (k : ℕ). set flags k true) (ek ∙ ap (λ (r : Edit). nameIn r .0) er))
 
 -- ---- loops over places, whose turns ask of the name at the place
 

@@ -4,10 +4,12 @@ use mathlib.Core.Bool.{Bool, true, false, not, _&&_, and-true, Bool·beq}
 use mathlib.Core.List.{List}
 use Prim.Native.Nat.{ℕ, _+_, _<_, _≤_}
 use lib.ListN.{length}
-use lib.Dec.{eqb, leb}
+use lib.Dec.{leb}
 use borrow.Author.Tests.{not-true, not-false, le-leb, lt-leb}
+use lib.ListN.{getD}
+use native.Mathlib.Omega.{arith}
+use Rattle.word.specs.Flags.{Flags}
 use Rattle.target.specs.declared.NameNumber.{NameNumber}
-use Rattle.target.specs.Target.{sameName}
 use Rattle.transaction.specs.declared.PackedRefs.{PackedRefs}
 use Rattle.transaction.specs.declared.Edit.{Edit}
 use Rattle.transaction.specs.Fields.{packedRefsNumber}
@@ -18,7 +20,7 @@ use Rattle.model.specs.declared.OptionLine.{OptionLine}
 use Rattle.model.specs.declared.OptionLine.the-variants as optionLine
 use Rattle.model.specs.Basic.{any, below}
 use Rattle.model.specs.Store.{Store, Entry, count, entryOf, isLock, isPacked, rowsIn, modeIn}
-use Rattle.model.specs.Rows.{nameIn, counts, countsAsUpdate, packsUpdates, opens, keepsLock}
+use Rattle.model.specs.Rows.{counts, countsAsUpdate, packsUpdates, opens}
 use Rattle.model.specs.Due.{dueLines}
 use Rattle.model.specs.Fine.{keptFor, fineLock, finePackedLock, fineLocks, fineRoom}
 use Rattle.rows.specs.Due.{lineList}
@@ -51,17 +53,14 @@ module _ (s : Store) (mode : PackedRefs) (rows : List Edit) (c : Bool) (ec : c �
 
 -- ---- R4: whose the locks are
 
--- a row of one name
-module _ (s : Store) (mode : PackedRefs) (row : Edit) (n : NameNumber) (b : Bool) (eb : b ≡ sameName (nameIn row) n) where
-  pub for-other : not b ≡ true → false ≡ (eqb (nameIn row .0) (n .0) && keepsLock s mode row)
-  for-other t = rw (sym eb ∙ not-true b t)
-
-  pub for-it : not b ≡ false → (r : Bool) → r ≡ keepsLock s mode row → r ≡ (eqb (nameIn row .0) (n .0) && keepsLock s mode row)
-  for-it t r er = rw (sym eb ∙ not-false b t) er
-
 pub lock-is : (s : Store) (n : NameNumber) (l : Lock) (x y : Bool) → l ≡ entryOf s n .lock → x ≡ isLock Ours l → y ≡ keptFor s (n .0) → Bool·beq x y ≡ fineLock s (n .0)
 unfolding fineLock
 lock-is s n l x y e h k = ap₂ Bool·beq (h ∙ ap (isLock Ours) e) k
+
+pub lock-flag : (s : Store) (n : NameNumber) (l : Lock) (x : Bool) (flags : List Bool) (k : ℕ) → l ≡ entryOf s n .lock → x ≡ isLock Ours l → Flags (keptFor s) flags
+    → k ≡ n .0 → n .0 < count s → count s ≤ 256 → Bool·beq x (getD flags k false) ≡ fineLock s (n .0)
+lock-flag s n l x flags k e h f ek below few =
+    lock-is s n l x (getD flags k false) e h (f .flag k (omega arith) ∙ ap (keptFor s) ek)
 
 pub packed-lock-is : (s : Store) (l : Lock) (x y : Bool) → l ≡ s .packedLock → x ≡ isLock Ours l → y ≡ opens s (modeIn (s .prepared)) (rowsIn (s .prepared)) → Bool·beq x y ≡ finePackedLock s
 packed-lock-is s l x y e h k = ap₂ Bool·beq (h ∙ ap (isLock Ours) e) k

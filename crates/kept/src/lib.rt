@@ -1,16 +1,17 @@
 // What the rules ask of all rows together: R2, whether the packed table is opened; R4, which locks are ours; and the room that the
 // due lines take.
 ghost use mathlib.Core.Path.{_≡_};
-ghost use mathlib.Core.Bool.{_&&_};
+ghost use mathlib.Core.Bool.{true, _&&_, cond};
 ghost use Prim.Native.Nat.{_<_, _≤_};
-ghost use lib.ListN.{length};
-ghost use lib.Dec.{eqb};
+ghost use lib.ListN.{length, set};
+ghost use Rattle.word.specs.Flags.{Flags, nowhere};
 ghost use Rattle.model.specs.Basic.{any, below};
 ghost use Rattle.model.specs.Store.{Entry, count, rowsIn, modeIn, isLock, isPacked};
-ghost use Rattle.model.specs.Rows.{nameIn, packsUpdates, countsAsUpdate, opens, keepsLock};
+ghost use Rattle.model.specs.Rows.{nameIn, rowAt, packsUpdates, countsAsUpdate, opens, keepsLock};
 ghost use Rattle.model.specs.Due.{unsigned, dueLine, dueLines};
 ghost use Rattle.model.specs.Fine.{keptFor, fineLock, finePackedLock, fineLocks, fineRoom};
 ghost use Rattle.region.specs.Region.{view, Laid};
+ghost use Rattle.rows.specs.Due.{lined};
 ghost use Rattle.kept.specs.Counting.{counting};
 use model::Line;
 use model::Lock;
@@ -103,35 +104,34 @@ pub fn opens_table(region: &[u8]) -> bool
 
 // ---- R4: a lock is ours exactly if some row keeps it
 
-fn keeps_for(region: &[u8], mode: PackedRefs, row: Edit, n: NameNumber) -> bool
+// The lock that a row keeps, among the flags of kept ones.
+fn flag_row(region: &[u8], mode: PackedRefs, i: usize, flags: &mut [bool])
     requires { ⌜ Laid (now region) ⌝ }
-    ensures { λ r. ⌜ r ≡ (eqb (nameIn row .0) (n .0) && keepsLock (view (now (region .entry))) mode row) ⌝ }
+    requires { ⌜ i < length (rowsIn (view (now region) .prepared)) ⌝ }
+    ensures { λ _. ⌜ now (flags .exit) ≡ cond (keepsLock (view (now (region .entry))) mode (rowAt (rowsIn (view (now (region .entry)) .prepared)) i)) (set (now (flags .entry)) (nameIn (rowAt (rowsIn (view (now (region .entry)) .prepared)) i) .0) true) (now (flags .entry)) ⌝ }
 {
+    let row = region::row_at(region, i);
+    if !rows::keeps_lock(region, mode, row) {
+        return;
+    }
     let update = row.update;
     let name = update.name;
-    if !name.eq(n) {
-        return false;
-    }
-    rows::keeps_lock(region, mode, row)
+    word::raise(flags, name.place());
 }
 
-// Whether some row of the name keeps its lock.
-fn kept_for(region: &[u8], n: NameNumber) -> bool
+// The flags of the names whose lock some row keeps, in one pass.
+fn flag_rows(region: &[u8], flags: &mut [bool])
     requires { ⌜ Laid (now region) ⌝ }
-    ensures { λ r. ⌜ r ≡ keptFor (view (now (region .entry))) (n .0) ⌝ }
+    requires { ⌜ Flags nowhere (now flags) ⌝ }
+    ensures { λ _. ⌜ Flags (keptFor (view (now (region .entry)))) (now (flags .exit)) ⌝ }
 {
     let mode = region::mode(region);
     let rows = region::count_rows(region);
     let mut i: usize = 0;
     while i < rows {
-        let yes = keeps_for(region, mode, region::row_at(region, i), n);
-        if yes {
-            return true;
-        } else {
-            i += 1;
-        }
+        flag_row(region, mode, i, flags);
+        i += 1;
     }
-    false
 }
 
 fn is_ours(lock: Lock) -> bool
@@ -144,24 +144,26 @@ fn is_ours(lock: Lock) -> bool
     }
 }
 
-fn lock_fine(region: &[u8], n: NameNumber) -> bool
+fn lock_fine(region: &[u8], flags: &[bool], n: NameNumber) -> bool
     requires { ⌜ Laid (now region) ⌝ }
+    requires { ⌜ Flags (keptFor (view (now region))) (now flags) ⌝ }
     requires { ⌜ n .0 < count (view (now region)) ⌝ }
     ensures { λ r. ⌜ r ≡ fineLock (view (now (region .entry))) (n .0) ⌝ }
 {
     let ours = is_ours(region::lock_at(region, n));
-    let kept = kept_for(region, n);
+    let kept = flags[n.place()];
     ours == kept
 }
 
-fn name_locks_fine(region: &[u8]) -> bool
+fn flagged_locks_fine(region: &[u8], flags: &[bool]) -> bool
     requires { ⌜ Laid (now region) ⌝ }
+    requires { ⌜ Flags (keptFor (view (now region))) (now flags) ⌝ }
     ensures { λ r. ⌜ r ≡ below (count (view (now (region .entry)))) (fineLock (view (now (region .entry)))) ⌝ }
 {
     let count = region::count_names(region);
     let mut n: usize = 0;
     while n < count {
-        let ok = lock_fine(region, NameNumber::at(n));
+        let ok = lock_fine(region, flags, NameNumber::at(n));
         if ok {
             n += 1;
         } else {
@@ -169,6 +171,15 @@ fn name_locks_fine(region: &[u8]) -> bool
         }
     }
     true
+}
+
+fn name_locks_fine(region: &[u8]) -> bool
+    requires { ⌜ Laid (now region) ⌝ }
+    ensures { λ r. ⌜ r ≡ below (count (view (now (region .entry)))) (fineLock (view (now (region .entry)))) ⌝ }
+{
+    let mut flags = [false; NameNumber::LIMIT];
+    flag_rows(region, &mut flags);
+    flagged_locks_fine(region, &flags)
 }
 
 // The packed table's lock is ours exactly if it is opened.
@@ -193,14 +204,33 @@ pub fn locks_fine(region: &[u8]) -> bool
 
 // ---- room for the lines that are due
 
-fn count_due_row(region: &[u8], row: Edit) -> usize
+fn count_due_row(region: &[u8], flags: &[bool], row: Edit) -> usize
     requires { ⌜ Laid (now region) ⌝ }
+    requires { ⌜ Flags (lined (view (now region))) (now flags) ⌝ }
     ensures { λ r. ⌜ (r ≡ length (dueLine unsigned (view (now (region .entry))) row)) × (r ≤ 1) ⌝ }
 {
-    let OptionLine::Line(_) = rows::due_line(region, 0, row) else {
+    let update = row.update;
+    let name = update.name;
+    let has = rows::is_lined(region, flags, name);
+    let OptionLine::Line(_) = rows::due_line(region, has, 0, row) else {
         return 0;
     };
     1
+}
+
+fn count_flagged(region: &[u8], flags: &[bool]) -> usize
+    requires { ⌜ Laid (now region) ⌝ }
+    requires { ⌜ Flags (lined (view (now region))) (now flags) ⌝ }
+    ensures { λ r. ⌜ (r ≡ length (dueLines (view (now (region .entry))) (rowsIn (view (now (region .entry)) .prepared)))) × (r ≤ length (rowsIn (view (now (region .entry)) .prepared))) ⌝ }
+{
+    let rows = region::count_rows(region);
+    let mut due: usize = 0;
+    let mut i: usize = 0;
+    while i < rows {
+        due += count_due_row(region, flags, region::row_at(region, i));
+        i += 1;
+    }
+    due
 }
 
 // How many lines the rows are due: at most one each.
@@ -208,14 +238,9 @@ pub fn count_due(region: &[u8]) -> usize
     requires { ⌜ Laid (now region) ⌝ }
     ensures { λ r. ⌜ (r ≡ length (dueLines (view (now (region .entry))) (rowsIn (view (now (region .entry)) .prepared)))) × (r ≤ length (rowsIn (view (now (region .entry)) .prepared))) ⌝ }
 {
-    let rows = region::count_rows(region);
-    let mut due: usize = 0;
-    let mut i: usize = 0;
-    while i < rows {
-        due += count_due_row(region, region::row_at(region, i));
-        i += 1;
-    }
-    due
+    let mut flags = [false; NameNumber::LIMIT];
+    rows::flag_lines(region, &mut flags);
+    count_flagged(region, &flags)
 }
 
 // Log lines and due lines together are at most 1,024.

@@ -16,6 +16,7 @@ use Rattle.word.specs.Text.{decText, testText}
 use Rattle.word.proofs.Tests.{both-true}
 use Rattle.word.proofs.Cut.{length-cut, cut-cut}
 use Rattle.word.proofs.Slots.{okTable-held, slot-end}
+use Rattle.model.specs.declared.Line.{Line}
 use Rattle.model.specs.Store.{Entry, Prepared, noLine, count, entryAt, rowsIn, isPrepared}
 use Rattle.transaction.specs.declared.PackedRefs.{PackedRefs}
 use Rattle.transaction.specs.declared.PackedRefs.the-variants.{DeletionsOnly, DeletionsAndNonSymbolicUpdates, DeletionsAndNonSymbolicUpdatesRemoveLooseSourceReference}
@@ -107,6 +108,9 @@ module _ (r : List ℕ) (l : Laid r) (n : ℕ) (h : n < count (view r)) where
 
 pub name-of-row : (row : Edit) (rows : List Edit) (i : ℕ) → row ≡ model.rowAt rows i → row .update .name ≡ model.nameIn (model.rowAt rows i)
 name-of-row row rows i e = ap model.nameIn e
+
+pub name-of-line : (line : Line) (lines : List Line) (i : ℕ) → line ≡ getD lines i noLine → line .name ≡ getD lines i noLine .name
+name-of-line line lines i e = ap (λ (l : Line). l .name) e
 
 -- ---- the mode's byte is 0 exactly where nothing is prepared
 

@@ -244,3 +244,12 @@ pub fn line_at(region: &[u8], i: usize) -> Line
     let e = a + Layout::LINE_WIDTH;
     slots::get_line(&region[a..e])
 }
+
+pub fn line_name(region: &[u8], i: usize) -> NameNumber
+    requires { ⌜ Laid (now region) ⌝ }
+    requires { ⌜ i < length (view (now region) .lines) ⌝ }
+    ensures { λ r. ⌜ r ≡ getD (view (now (region .entry)) .lines) i noLine .name ⌝ }
+{
+    let line = line_at(region, i);
+    line.name
+}

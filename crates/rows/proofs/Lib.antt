@@ -1,3 +1,4 @@
 pub mod Laws
 pub mod Says
 pub mod Lines
+pub mod Gather

@@ -2,15 +2,16 @@
 // same functions. The names are those of the scope.
 ghost use mathlib.Core.Path.{_≡_};
 ghost use mathlib.Core.Bool.{not};
+ghost use Rattle.word.specs.Flags.{Flags, nowhere};
 ghost use Rattle.target.specs.Target.{sameObject};
 ghost use Rattle.transaction.specs.Change.{matched, idOf};
 ghost use Rattle.model.specs.Basic.{when};
 ghost use Rattle.model.specs.Names.{packable, logs, isDisabled};
 ghost use Rattle.model.specs.Store.{nameOf};
-ghost use Rattle.model.specs.Rows.{counts, countsAsUpdate, isDirect, keepsLock};
+ghost use Rattle.model.specs.Rows.{nameIn, counts, countsAsUpdate, isDirect, keepsLock};
 ghost use Rattle.model.specs.Due.{hasLines, isLogged, orLeaf, symbolicMove, moveOf, dueLine};
 ghost use Rattle.region.specs.Region.{view, Laid};
-ghost use Rattle.rows.specs.Due.{moveList, lineList};
+ghost use Rattle.rows.specs.Due.{moveList, lineList, lined};
 use model::Line;
 use model::OptionLine;
 use model::WriteReflog;
@@ -123,6 +124,34 @@ pub fn has_lines(region: &[u8], name: NameNumber) -> bool
     false
 }
 
+// The flags of the names that have lines, in one pass.
+pub fn flag_lines(region: &[u8], flags: &mut [bool])
+    requires { ⌜ Laid (now region) ⌝ }
+    requires { ⌜ Flags nowhere (now flags) ⌝ }
+    ensures { λ _. ⌜ Flags (lined (view (now (region .entry)))) (now (flags .exit)) ⌝ }
+{
+    let lines = region::count_lines(region);
+    let mut i: usize = 0;
+    while i < lines {
+        let name = region::line_name(region, i);
+        word::raise(flags, name.place());
+        i += 1;
+    }
+}
+
+// Whether the name has lines, by its flag; a number that has no flag is looked for in the log.
+pub fn is_lined(region: &[u8], flags: &[bool], name: NameNumber) -> bool
+    requires { ⌜ Laid (now region) ⌝ }
+    requires { ⌜ Flags (lined (view (now region))) (now flags) ⌝ }
+    ensures { λ r. ⌜ r ≡ hasLines (view (now (region .entry))) name ⌝ }
+{
+    let n = name.place();
+    if n < flags.len() {
+        return flags[n];
+    }
+    has_lines(region, name)
+}
+
 fn is_disabled(setting: WriteReflog) -> bool
     ensures { λ r. ⌜ r ≡ isDisabled setting ⌝ }
 {
@@ -145,8 +174,10 @@ fn name_logged(region: &[u8], setting: WriteReflog, name: NameNumber) -> bool
 }
 
 // Setting 0 never writes; else a line is written if the name has lines, or force is set, or the setting's own rule says so.
-pub fn is_logged(region: &[u8], row: Edit) -> bool
+// Whether the name has lines is what the caller knows already.
+pub fn is_logged(region: &[u8], has: bool, row: Edit) -> bool
     requires { ⌜ Laid (now region) ⌝ }
+    requires { ⌜ has ≡ hasLines (view (now region)) (nameIn row) ⌝ }
     ensures { λ r. ⌜ r ≡ isLogged (view (now (region .entry))) row ⌝ }
 {
     let setting = region::setting(region);
@@ -154,8 +185,7 @@ pub fn is_logged(region: &[u8], row: Edit) -> bool
         return false;
     }
     let update = row.update;
-    let name = update.name;
-    if has_lines(region, name) {
+    if has {
         return true;
     }
     let change = update.change;
@@ -163,6 +193,7 @@ pub fn is_logged(region: &[u8], row: Edit) -> bool
     if log.force_create_reflog {
         return true;
     }
+    let name = update.name;
     name_logged(region, setting, name)
 }
 
@@ -233,8 +264,9 @@ pub fn move_of(change: Change, leaf: ObjectNumber) -> OptionMove
 }
 
 // The row's log line, if it is due.
-pub fn due_line(region: &[u8], committer: u16, row: Edit) -> OptionLine
+pub fn due_line(region: &[u8], has: bool, committer: u16, row: Edit) -> OptionLine
     requires { ⌜ Laid (now region) ⌝ }
+    requires { ⌜ has ≡ hasLines (view (now region)) (nameIn row) ⌝ }
     ensures { λ r. ⌜ lineList r ≡ dueLine (record { committer = committer }) (view (now (region .entry))) row ⌝ }
 {
     let update = row.update;
@@ -243,7 +275,7 @@ pub fn due_line(region: &[u8], committer: u16, row: Edit) -> OptionLine
     let OptionMove::Moved(previous, new) = move_of(change, leaf) else {
         return OptionLine::NoLine;
     };
-    if !is_logged(region, row) {
+    if !is_logged(region, has, row) {
         return OptionLine::NoLine;
     }
     let name = update.name;

@@ -7,11 +7,9 @@ use Prim.Native.Nat.{ℕ, zero, suc, _+_, _<_, _≤_, _^_}
 use native.Mathlib.Omega.{arith}
 use lib.ListN.{length, getD}
 use lib.Dec.{eqb, ltb, leb}
-use borrow.Author.Count.{below-more as further}
 use borrow.Author.Tests.{lt-ltb, le-ltb, le-leb, eqb-true, eqb-false, ne-eqb, not-true, not-false}
 use mir.Val.{Fits}
 use mir.Syntax.{w16, w64}
-use Rattle.word.specs.Tests.{sameList}
 use Rattle.word.proofs.Tests.{both-true, every-at, every-false, below-false, below-true, below-more}
 use Rattle.target.specs.declared.ObjectNumber.{ObjectNumber}
 use Rattle.target.specs.declared.NameNumber.{NameNumber}
@@ -19,7 +17,6 @@ use Rattle.target.specs.declared.Target.{Target}
 use Rattle.target.specs.declared.Target.the-variants.{Object, Symbolic}
 use Rattle.target.specs.declared.OptionTarget.{OptionTarget}
 use Rattle.target.specs.declared.OptionTarget.the-variants.{Present}
-use Rattle.target.specs.Target.{sameName}
 use Rattle.transaction.specs.declared.ParentIndex.{ParentIndex}
 use Rattle.transaction.specs.declared.ParentIndex.the-variants.{NoParent, Parent}
 use Rattle.transaction.specs.declared.Edit.{Edit}
@@ -31,8 +28,9 @@ use Rattle.model.specs.declared.Packed.the-variants as packed
 use Rattle.model.specs.declared.Line.{Line}
 use Rattle.model.specs.Basic.{every, below}
 use Rattle.model.specs.Names.{isName, packable}
-use Rattle.model.specs.Store.{Store, count, entryAt, entryOf, nameOf, noLine, rowsIn, isId}
+use Rattle.model.specs.Store.{Store, count, entryAt, entryOf, noLine, rowsIn, isId}
 use Rattle.model.specs.Rows.{nameIn, changeIn, rowAt, ancestors}
+use borrow.Author.Count.{below-more as further}
 use Rattle.model.specs.Fine.{entryTests, lineTests, rowTests, fineTarget, fineOption, fineLoose, finePacked, fineEntry, fineLine, fineParent, fineRow, apartNames, apartRows}
 use Rattle.model.specs.Fine.{Upward, fineNames, fineLines, fineRows}
 use Rattle.model.proofs.Climbs.{ancestors-none, ancestors-up, falls}
@@ -114,20 +112,6 @@ module _ (s : Store) (n : NameNumber) (name : List ℕ) (b : Bool) (e : name ≡
         let y : fineLoose (count s) (entryOf s n .loose) ≡ true = ap₂ fineLoose (sym q) (sym g) ∙ sym h ∙ not-false c u in
         let z : finePacked (entryOf s n .name) (entryOf s n .packed) ≡ d = ap₂ finePacked (sym e) (sym i) ∙ sym j in
         rw (x, y, z) (sym (and-true d))
-
--- ---- names are apart
-
-module _ (s : Store) (n m : ℕ) (x y : NameNumber) (a b : List ℕ) (t : Bool) (f : x ≡ record { 0 = n }) (g : y ≡ record { 0 = m })
-    (p : a ≡ entryOf s x .name) (q : b ≡ entryOf s y .name) (e : t ≡ sameList a b) where
-  same-names : apartNames s n m ≡ not t
-  same-names =
-      ap not (ap₂ (λ (x y : NameNumber). sameList (nameOf s x) (nameOf s y)) (sym f) (sym g) ∙ ap₂ sameList (sym p) (sym q) ∙ sym e)
-
-  pub name-more : below m (apartNames s n) ≡ true → t ≡ false → below (m + 1) (apartNames s n) ≡ true
-  name-more h u = below-more m (apartNames s n) h (same-names ∙ ap not u)
-
-  pub name-stop : m < n → t ≡ true → false ≡ below n (apartNames s n)
-  name-stop h u = sym (below-false n (apartNames s n) m h (same-names ∙ ap not u))
 
 -- ---- lines
 
@@ -250,18 +234,6 @@ pub row-rest : (r : List ℕ) (k i j : ℕ) (row : Edit) (v w : OptionTarget) (b
     → leb m 4 ≡ fineRow (count (view r)) (rowsIn (view r .prepared)) i
 row-rest r k i j row v w b c d m l z q e p h t fv gv tv fw gw tw fd td g =
     row-rest-fits (count (view r)) k i (rowsIn (view r .prepared)) row q e j v w b c d m (laid-image r l .1 .row i z) p h t fv gv tv fw gw tw fd td (g .0)
-
--- rows are apart
-module _ (rows : List Edit) (i j : ℕ) (a b : NameNumber) (t : Bool) (p : a ≡ nameIn (rowAt rows i)) (q : b ≡ nameIn (rowAt rows j))
-    (e : t ≡ sameName a b) where
-  same-rows : apartRows rows i j ≡ not t
-  same-rows = ap not (ap₂ sameName (sym p) (sym q) ∙ sym e)
-
-  pub apart-more : below j (apartRows rows i) ≡ true → t ≡ false → below (j + 1) (apartRows rows i) ≡ true
-  apart-more h d = below-more j (apartRows rows i) h (same-rows ∙ ap not d)
-
-  pub apart-stop : j < i → t ≡ true → false ≡ below i (apartRows rows i)
-  apart-stop h d = sym (below-false i (apartRows rows i) j h (same-rows ∙ ap not d))
 
 -- ---- its own rules first, then apart from earlier ones
 

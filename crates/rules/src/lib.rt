@@ -1,14 +1,17 @@
 // The rules of a store, tested through the region's accessors: names and values, lines, rows.
 ghost use mathlib.Core.Path.{_≡_};
+ghost use mathlib.Core.Bool.{not};
 ghost use Prim.Native.Nat.{_+_, _<_, _≤_};
 ghost use lib.ListN.{length};
+ghost use Rattle.word.specs.Flags.{Flags, nowhere};
 ghost use Rattle.model.specs.Basic.{below};
 ghost use Rattle.model.specs.Store.{count, entryOf, rowsIn};
 ghost use Rattle.model.specs.Rows.{ancestors};
 ghost use Rattle.model.specs.Fine.{fineTarget, fineOption, fineLoose, finePacked, fineEntry, fineLine, fineParent, fineRow, apartNames, apartRows};
 ghost use Rattle.model.specs.Fine.{Upward, fineNames, fineLines, fineRows};
 ghost use Rattle.region.specs.Region.{view, Laid};
-ghost use Rattle.rules.specs.Tests.{nameTest, rowTest};
+ghost use Rattle.rules.specs.Tests.{nameTest};
+ghost use Rattle.rules.specs.Marks.{markOf, Marked, seen, Stood};
 use model::Line;
 use model::Loose;
 use model::Packed;
@@ -79,16 +82,55 @@ fn entry_ok(region: &[u8], n: NameNumber) -> bool
     packed_ok(name, region::packed_at(region, n))
 }
 
-// No earlier name has the same bytes.
-fn name_apart(region: &[u8], n: usize) -> bool
+// ---- names are apart: by their marks first, since two names that have other marks are no pair
+
+// The number that the last bytes of a name make, eight at most. Names often begin alike and end apart.
+fn mark(name: &[u8]) -> u64
+    ensures { λ r. ⌜ r ≡ markOf (now (name .entry)) ⌝ }
+{
+    let n = name.len();
+    if n < 8 {
+        return word::get(name);
+    }
+    word::get_at(name, n - 8, 8)
+}
+
+fn mark_names(region: &[u8], marks: &mut [u64])
     requires { ⌜ Laid (now region) ⌝ }
+    requires { ⌜ length (now marks) ≡ 256 ⌝ }
+    ensures { λ _. ⌜ Marked (view (now (region .entry))) (now (marks .exit)) ⌝ }
+{
+    let count = region::count_names(region);
+    let mut n: usize = 0;
+    while n < count {
+        marks[n] = mark(region::name_at(region, NameNumber::at(n)));
+        n += 1;
+    }
+}
+
+fn same_names(region: &[u8], marks: &[u64], n: usize, m: usize) -> bool
+    requires { ⌜ Laid (now region) ⌝ }
+    requires { ⌜ Marked (view (now region)) (now marks) ⌝ }
+    requires { ⌜ (n < count (view (now region))) × (m < count (view (now region))) ⌝ }
+    ensures { λ r. ⌜ not r ≡ apartNames (view (now (region .entry))) n m ⌝ }
+{
+    if marks[n] != marks[m] {
+        return false;
+    }
+    let name = region::name_at(region, NameNumber::at(n));
+    word::same(name, region::name_at(region, NameNumber::at(m)))
+}
+
+// No earlier name has the same bytes.
+fn name_apart(region: &[u8], marks: &[u64], n: usize) -> bool
+    requires { ⌜ Laid (now region) ⌝ }
+    requires { ⌜ Marked (view (now region)) (now marks) ⌝ }
     requires { ⌜ n < count (view (now region)) ⌝ }
     ensures { λ r. ⌜ r ≡ below n (apartNames (view (now (region .entry))) n) ⌝ }
 {
-    let name = region::name_at(region, NameNumber::at(n));
     let mut m: usize = 0;
     while m < n {
-        let same = word::same(name, region::name_at(region, NameNumber::at(m)));
+        let same = same_names(region, marks, n, m);
         if same {
             return false;
         } else {
@@ -98,25 +140,27 @@ fn name_apart(region: &[u8], n: usize) -> bool
     true
 }
 
-fn name_ok(region: &[u8], n: usize) -> bool
+fn name_ok(region: &[u8], marks: &[u64], n: usize) -> bool
     requires { ⌜ Laid (now region) ⌝ }
+    requires { ⌜ Marked (view (now region)) (now marks) ⌝ }
     requires { ⌜ n < count (view (now region)) ⌝ }
     ensures { λ r. ⌜ r ≡ nameTest (view (now (region .entry))) n ⌝ }
 {
     if !entry_ok(region, NameNumber::at(n)) {
         return false;
     }
-    name_apart(region, n)
+    name_apart(region, marks, n)
 }
 
-pub fn names_fine(region: &[u8]) -> bool
+fn marked_fine(region: &[u8], marks: &[u64]) -> bool
     requires { ⌜ Laid (now region) ⌝ }
+    requires { ⌜ Marked (view (now region)) (now marks) ⌝ }
     ensures { λ r. ⌜ r ≡ fineNames (view (now (region .entry))) ⌝ }
 {
     let count = region::count_names(region);
     let mut n: usize = 0;
     while n < count {
-        let ok = name_ok(region, n);
+        let ok = name_ok(region, marks, n);
         if ok {
             n += 1;
         } else {
@@ -124,6 +168,15 @@ pub fn names_fine(region: &[u8]) -> bool
         }
     }
     true
+}
+
+pub fn names_fine(region: &[u8]) -> bool
+    requires { ⌜ Laid (now region) ⌝ }
+    ensures { λ r. ⌜ r ≡ fineNames (view (now (region .entry))) ⌝ }
+{
+    let mut marks = [0u64; NameNumber::LIMIT];
+    mark_names(region, &mut marks);
+    marked_fine(region, &marks)
 }
 
 // ---- lines
@@ -217,45 +270,35 @@ fn row_ok(region: &[u8], i: usize) -> bool
     count_ancestors(region, i) <= Edit::ANCESTORS
 }
 
-// No earlier row has the same name.
-fn row_apart(region: &[u8], i: usize) -> bool
-    requires { ⌜ Laid (now region) ⌝ }
-    requires { ⌜ i < length (rowsIn (view (now region) .prepared)) ⌝ }
-    ensures { λ r. ⌜ r ≡ below i (apartRows (rowsIn (view (now (region .entry)) .prepared)) i) ⌝ }
-{
-    let name = region::row_name(region, i);
-    let mut j: usize = 0;
-    while j < i {
-        let same = name.eq(region::row_name(region, j));
-        if same {
-            return false;
-        } else {
-            j += 1;
-        }
-    }
-    true
-}
-
-fn row_stands(region: &[u8], i: usize) -> bool
+// Its own rules, and a name that no earlier row has: the flags of the names seen so far tell. If it stands, its own flag goes up.
+fn row_stands(region: &[u8], i: usize, flags: &mut [bool]) -> bool
     requires { ⌜ Laid (now region) ⌝ }
     requires { ⌜ i < length (rowsIn (view (now region) .prepared)) ⌝ }
     requires { ⌜ Upward i (rowsIn (view (now region) .prepared)) ⌝ }
-    ensures { λ r. ⌜ r ≡ rowTest (view (now (region .entry))) i ⌝ }
+    requires { ⌜ Flags (seen (rowsIn (view (now region) .prepared)) i) (now flags) ⌝ }
+    ensures { λ r. ⌜ Stood (view (now (region .entry))) i r (now (flags .exit)) ⌝ }
 {
     if !row_ok(region, i) {
         return false;
     }
-    row_apart(region, i)
+    let name = region::row_name(region, i);
+    let n = name.place();
+    if flags[n] {
+        return false;
+    }
+    word::raise(flags, n);
+    true
 }
 
-pub fn rows_fine(region: &[u8]) -> bool
+fn flagged_rows_fine(region: &[u8], flags: &mut [bool]) -> bool
     requires { ⌜ Laid (now region) ⌝ }
+    requires { ⌜ Flags nowhere (now flags) ⌝ }
     ensures { λ r. ⌜ r ≡ fineRows (view (now (region .entry))) ⌝ }
 {
     let rows = region::count_rows(region);
     let mut i: usize = 0;
     while i < rows {
-        let ok = row_stands(region, i);
+        let ok = row_stands(region, i, flags);
         if ok {
             i += 1;
         } else {
@@ -263,4 +306,12 @@ pub fn rows_fine(region: &[u8]) -> bool
         }
     }
     true
+}
+
+pub fn rows_fine(region: &[u8]) -> bool
+    requires { ⌜ Laid (now region) ⌝ }
+    ensures { λ r. ⌜ r ≡ fineRows (view (now (region .entry))) ⌝ }
+{
+    let mut flags = [false; NameNumber::LIMIT];
+    flagged_rows_fine(region, &mut flags)
 }

@@ -8,3 +8,4 @@ pub mod Slots
 pub mod Column
 pub mod Codec
 pub mod Text
+pub mod Flags

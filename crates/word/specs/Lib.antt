@@ -5,3 +5,4 @@ pub mod Table
 pub mod Fields
 pub mod Codec
 pub mod Text
+pub mod Flags

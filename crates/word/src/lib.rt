@@ -1,8 +1,9 @@
 // Bytes: big-endian numbers of one to eight of them, and what every other layer does with a part of a slice. One reader and one
 // writer serve every width: the width is the length of the part that is lent.
 ghost use mathlib.Core.Path.{_≡_};
+ghost use mathlib.Core.Bool.{true};
 ghost use Prim.Native.Nat.{_+_, _≤_};
-ghost use lib.ListN.{length, replicate};
+ghost use lib.ListN.{length, replicate, set};
 ghost use Rattle.word.specs.Be.{cut, val, be};
 ghost use Rattle.word.specs.Cut.{put};
 ghost use Rattle.word.specs.Tests.{sameList};
@@ -115,5 +116,16 @@ pub fn copy(dst: &mut [u8], src: &[u8])
     while i < dst.len() {
         dst[i] = src[i];
         i += 1;
+    }
+}
+
+// ---- flags, by number
+
+// The flag of a number goes up. A number that has no flag is passed over.
+pub fn raise(flags: &mut [bool], k: usize)
+    ensures { λ _. ⌜ now (flags .exit) ≡ set (now (flags .entry)) k true ⌝ }
+{
+    if k < flags.len() {
+        flags[k] = true;
     }
 }

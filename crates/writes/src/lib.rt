@@ -42,7 +42,9 @@ pub fn next_line(region: &[u8], committer: u16, row: Edit) -> OptionWrite
     requires { ⌜ Laid (now region) ⌝ }
     ensures { λ r. ⌜ writeList (view (now (region .entry))) r ≡ map appendLine (dueLine (by committer) (view (now (region .entry))) row) ⌝ }
 {
-    let OptionLine::Line(line) = rows::due_line(region, committer, row) else {
+    let update = row.update;
+    let has = rows::has_lines(region, update.name);
+    let OptionLine::Line(line) = rows::due_line(region, has, committer, row) else {
         return OptionWrite::NoWrite;
     };
     OptionWrite::AppendLine(line)

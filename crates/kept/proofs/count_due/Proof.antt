@@ -1,60 +1,29 @@
+use Rattle.word.proofs.Flags.{all-down}
 use borrow.Author.Needs.{needs}
-use mathlib.Core.Path.{_≡_}
-use native.Mathlib.Omega.{arith}
-use Prim.Native.Nat.{_+_, _-_, _≤_}
-use lib.ListN.{length, drop}
-use Rattle.region.specs.Region.{view}
-use Rattle.model.specs.Store.{rowsIn}
-use Rattle.model.specs.Due.{dueLines}
-use Rattle.kept.proofs.Laws.{sum-start, sum-more, sum-end}
 use Rattle.kept.proofs.count_due.Statement.{statement}
 use Rattle.kept.proofs.count_due.Tie as tie
 
-abbrev Inv-loop : tie.InvT-loop
-Inv-loop region rows due₀ i₀ due i = (due + length (dueLines (view region) (drop i (rowsIn (view region .prepared)))) ≡ length (dueLines (view region) (rowsIn (view region .prepared)))) × (due ≤ i) × (i ≤ rows)
+slice-aggregate-flag-lines : tie.Need-slice-aggregate-flag-lines
+slice-aggregate-flag-lines c = search needs
 
-abbrev μ-loop : tie.MeasureT-loop
-μ-loop region rows due₀ i₀ due i = rows - i
+flag-lines-requires : tie.Need-flag-lines-requires
+flag-lines-requires c κs = (search needs, search all-down)
 
-count-rows-requires : tie.Need-count-rows-requires Inv-loop μ-loop
-count-rows-requires c κs = search needs
+slice-aggregate-count-flagged : tie.Need-slice-aggregate-count-flagged
+slice-aggregate-count-flagged c = search needs
 
-loop-holds : tie.Need-loop-holds Inv-loop μ-loop
-loop-holds c = (sum-start _, omega arith, omega arith)
+count-flagged-requires : tie.Need-count-flagged-requires
+count-flagged-requires c κs = search needs
 
-row-at-requires : tie.Need-row-at-requires Inv-loop μ-loop
-row-at-requires c κs = search needs
-
-count-due-row-requires : tie.Need-count-due-row-requires Inv-loop μ-loop
-count-due-row-requires c κs = search needs
-
-add-due : tie.Need-add-due Inv-loop μ-loop
-add-due c = omega arith
-
-add-i : tie.Need-add-i Inv-loop μ-loop
-add-i c = search needs
-
-loop-less : tie.Need-loop-less Inv-loop μ-loop
-loop-less c = search needs
-
-loop-again : tie.Need-loop-again Inv-loop μ-loop
-loop-again c = (search sum-more, omega arith, omega arith)
-
-returns : tie.Need-returns Inv-loop μ-loop
-returns c = (search sum-end, omega arith)
+returns : tie.Need-returns
+returns c = search needs
 
 pub count-due-spec : {M : Type 1} → statement M
 count-due-spec =
     tie.close
     (tie.spec
-    Inv-loop
-    μ-loop
-    count-rows-requires
-    loop-holds
-    row-at-requires
-    count-due-row-requires
-    add-due
-    add-i
-    loop-less
-    loop-again
+    slice-aggregate-flag-lines
+    flag-lines-requires
+    slice-aggregate-count-flagged
+    count-flagged-requires
     returns)

@@ -1,60 +1,29 @@
+use Rattle.word.proofs.Flags.{all-down}
 use borrow.Author.Needs.{needs}
-use mathlib.Core.Path.{_≡_}
-use mathlib.Core.Bool.{true}
-use native.Mathlib.Omega.{arith}
-use Prim.Native.Nat.{_-_, _≤_}
-use Rattle.region.specs.Region.{view}
-use Rattle.model.specs.Basic.{below}
-use Rattle.model.specs.Fine.{fineLock}
-use Rattle.kept.proofs.Laws.{placed, none-below, all-more, all-stop, all-end}
 use Rattle.kept.proofs.name_locks_fine.Statement.{statement}
 use Rattle.kept.proofs.name_locks_fine.Tie as tie
 
-abbrev Inv-loop : tie.InvT-loop
-Inv-loop region count n₀ n = (n ≤ count) × (below n (fineLock (view region)) ≡ true)
+slice-aggregate-flag-rows : tie.Need-slice-aggregate-flag-rows
+slice-aggregate-flag-rows c = search needs
 
-abbrev μ-loop : tie.MeasureT-loop
-μ-loop region count n₀ n = count - n
+flag-rows-requires : tie.Need-flag-rows-requires
+flag-rows-requires c κs = (search needs, search all-down)
 
-count-names-requires : tie.Need-count-names-requires Inv-loop μ-loop
-count-names-requires c κs = search needs
+slice-aggregate-flagged-locks-fine : tie.Need-slice-aggregate-flagged-locks-fine
+slice-aggregate-flagged-locks-fine c = search needs
 
-loop-holds : tie.Need-loop-holds Inv-loop μ-loop
-loop-holds c = (omega arith, none-below _)
+flagged-locks-fine-requires : tie.Need-flagged-locks-fine-requires
+flagged-locks-fine-requires c κs = search needs
 
-at-requires : tie.Need-at-requires Inv-loop μ-loop
-at-requires c κs = search needs
-
-lock-fine-requires : tie.Need-lock-fine-requires Inv-loop μ-loop
-lock-fine-requires c κs = search (needs, placed)
-
-add-n : tie.Need-add-n Inv-loop μ-loop
-add-n c = search needs
-
-loop-less : tie.Need-loop-less Inv-loop μ-loop
-loop-less c = search needs
-
-loop-again : tie.Need-loop-again Inv-loop μ-loop
-loop-again c = (omega arith, search all-more)
-
-returns : tie.Need-returns Inv-loop μ-loop
-returns c = search all-stop
-
-returns-2 : tie.Need-returns-2 Inv-loop μ-loop
-returns-2 c = search all-end
+returns : tie.Need-returns
+returns c = search needs
 
 pub name-locks-fine-spec : {M : Type 1} → statement M
 name-locks-fine-spec =
     tie.close
     (tie.spec
-    Inv-loop
-    μ-loop
-    count-names-requires
-    loop-holds
-    at-requires
-    lock-fine-requires
-    add-n
-    loop-less
-    loop-again
-    returns
-    returns-2)
+    slice-aggregate-flag-rows
+    flag-rows-requires
+    slice-aggregate-flagged-locks-fine
+    flagged-locks-fine-requires
+    returns)

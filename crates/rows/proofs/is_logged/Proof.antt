@@ -12,9 +12,6 @@ is-disabled-requires c κs = search needs
 returns : tie.Need-returns
 returns c = search logged-never
 
-has-lines-requires : tie.Need-has-lines-requires
-has-lines-requires c κs = search needs
-
 returns-2 : tie.Need-returns-2
 returns-2 c = search logged-lines
 
@@ -37,7 +34,6 @@ is-logged-spec =
     setting-requires
     is-disabled-requires
     returns
-    has-lines-requires
     returns-2
     log-requires
     returns-3

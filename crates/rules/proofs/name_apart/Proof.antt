@@ -5,34 +5,23 @@ use Prim.Native.Nat.{_-_, _≤_}
 use Rattle.model.specs.Basic.{below}
 use Rattle.region.specs.Region.{view}
 use Rattle.model.specs.Fine.{apartNames}
-use Rattle.rules.proofs.Laws.{placed, loop-none, name-more, name-stop, loop-done}
+use Rattle.rules.proofs.Laws.{loop-none, loop-done}
+use Rattle.rules.proofs.Marks.{name-more, name-stop}
 use borrow.Author.Needs.{needs}
 use Rattle.rules.proofs.name_apart.Statement.{statement}
 use Rattle.rules.proofs.name_apart.Tie as tie
 
 abbrev Inv-loop : tie.InvT-loop
-Inv-loop region n name m₀ m = (m ≤ n) × (below m (apartNames (view region) n) ≡ true)
+Inv-loop region marks n m₀ m = (m ≤ n) × (below m (apartNames (view region) n) ≡ true)
 
 abbrev μ-loop : tie.MeasureT-loop
-μ-loop region n name m₀ m = n - m
-
-at-requires : tie.Need-at-requires Inv-loop μ-loop
-at-requires c κs = search needs
-
-name-at-requires : tie.Need-name-at-requires Inv-loop μ-loop
-name-at-requires c κs = (search needs, placed _ _ _ (c .at .ensures) (omega arith))
+μ-loop region marks n m₀ m = n - m
 
 loop-holds : tie.Need-loop-holds Inv-loop μ-loop
 loop-holds c = (omega arith, loop-none _)
 
-at-requires-2 : tie.Need-at-requires-2 Inv-loop μ-loop
-at-requires-2 c κs = search needs
-
-name-at-requires-2 : tie.Need-name-at-requires-2 Inv-loop μ-loop
-name-at-requires-2 c κs = (search needs, placed _ _ _ (c .at2 .ensures) (omega arith))
-
-same-requires : tie.Need-same-requires Inv-loop μ-loop
-same-requires c κs = search needs
+same-names-requires : tie.Need-same-names-requires Inv-loop μ-loop
+same-names-requires c κs = (search needs, (search needs, (search needs, omega arith)))
 
 returns : tie.Need-returns Inv-loop μ-loop
 returns c = search name-stop
@@ -55,12 +44,8 @@ name-apart-spec =
     (tie.spec
     Inv-loop
     μ-loop
-    at-requires
-    name-at-requires
     loop-holds
-    at-requires-2
-    name-at-requires-2
-    same-requires
+    same-names-requires
     returns
     add-m
     loop-less

@@ -1,5 +1,5 @@
+use Rattle.rules.proofs.Seen.{seen-not, seen-room, seen-twice, seen-once}
 use borrow.Author.Needs.{needs}
-use Rattle.rules.proofs.Laws.{row-own, row-other}
 use Rattle.rules.proofs.row_stands.Statement.{statement}
 use Rattle.rules.proofs.row_stands.Tie as tie
 
@@ -7,13 +7,39 @@ row-ok-requires : tie.Need-row-ok-requires
 row-ok-requires c κs = search needs
 
 returns : tie.Need-returns
-returns c = search row-own
+returns c = search seen-not
 
-row-apart-requires : tie.Need-row-apart-requires
-row-apart-requires c κs = search needs
+row-name-requires : tie.Need-row-name-requires
+row-name-requires c κs = search needs
+
+place-requires : tie.Need-place-requires
+place-requires c κs = search needs
+
+slice-read-if2 : tie.Need-slice-read-if2
+slice-read-if2 c = search seen-room
 
 returns-2 : tie.Need-returns-2
-returns-2 c = search row-other
+returns-2 c = search seen-twice
+
+raise-requires : tie.Need-raise-requires
+raise-requires c κs = search needs
+
+same-length : tie.Need-same-length
+same-length c = search needs
+
+returns-3 : tie.Need-returns-3
+returns-3 c = search seen-once
 
 pub row-stands-spec : {M : Type 1} → statement M
-row-stands-spec = tie.close (tie.spec row-ok-requires returns row-apart-requires returns-2)
+row-stands-spec =
+    tie.close
+    (tie.spec
+    row-ok-requires
+    returns
+    row-name-requires
+    place-requires
+    slice-read-if2
+    returns-2
+    raise-requires
+    same-length
+    returns-3)

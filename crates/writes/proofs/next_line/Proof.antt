@@ -3,6 +3,9 @@ use Rattle.writes.proofs.Says.{line-none, line-due}
 use Rattle.writes.proofs.next_line.Statement.{statement}
 use Rattle.writes.proofs.next_line.Tie as tie
 
+has-lines-requires : tie.Need-has-lines-requires
+has-lines-requires c κs = search needs
+
 due-line-requires : tie.Need-due-line-requires
 due-line-requires c κs = search needs
 
@@ -19,4 +22,4 @@ returns-2 : tie.Need-returns-2
 returns-2 c = search line-due
 
 pub next-line-spec : {M : Type 1} → statement M
-next-line-spec = tie.close (tie.spec due-line-requires enum-known-line enum-told returns returns-2)
+next-line-spec = tie.close (tie.spec has-lines-requires due-line-requires enum-known-line enum-told returns returns-2)

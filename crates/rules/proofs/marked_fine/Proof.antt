@@ -7,14 +7,14 @@ use Rattle.region.specs.Region.{view}
 use Rattle.rules.specs.Tests.{nameTest}
 use Rattle.rules.proofs.Laws.{loop-none, loop-more, names-stop, names-end}
 use borrow.Author.Needs.{needs}
-use Rattle.rules.proofs.names_fine.Statement.{statement}
-use Rattle.rules.proofs.names_fine.Tie as tie
+use Rattle.rules.proofs.marked_fine.Statement.{statement}
+use Rattle.rules.proofs.marked_fine.Tie as tie
 
 abbrev Inv-loop : tie.InvT-loop
-Inv-loop region m i₀ i = (i ≤ m) × (below i (nameTest (view region)) ≡ true)
+Inv-loop region marks m i₀ i = (i ≤ m) × (below i (nameTest (view region)) ≡ true)
 
 abbrev μ-loop : tie.MeasureT-loop
-μ-loop region m i₀ i = m - i
+μ-loop region marks m i₀ i = m - i
 
 count-names-requires : tie.Need-count-names-requires Inv-loop μ-loop
 count-names-requires c κs = search needs
@@ -23,7 +23,7 @@ loop-holds : tie.Need-loop-holds Inv-loop μ-loop
 loop-holds c = (omega arith, loop-none _)
 
 name-ok-requires : tie.Need-name-ok-requires Inv-loop μ-loop
-name-ok-requires c κs = search needs
+name-ok-requires c κs = (search needs, (search needs, omega arith))
 
 add-n : tie.Need-add-n Inv-loop μ-loop
 add-n c = search needs
@@ -40,8 +40,8 @@ returns c = search names-stop
 returns-2 : tie.Need-returns-2 Inv-loop μ-loop
 returns-2 c = search names-end
 
-pub names-fine-spec : {M : Type 1} → statement M
-names-fine-spec =
+pub marked-fine-spec : {M : Type 1} → statement M
+marked-fine-spec =
     tie.close
     (tie.spec
     Inv-loop
