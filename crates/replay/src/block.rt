@@ -109,8 +109,7 @@ fn end(region: &mut Region, answer: &mut Answer, notes: &mut Notes) {
     if notes[Note::REFUSED] == 0 {
         judge_after(region, answer, notes);
     }
-    report::settle(notes);
-    notes::count(notes, Note::CASES);
+    faults::close(notes);
 }
 
 // Lines that say what the store is before.
@@ -195,7 +194,7 @@ fn block_line(
     list: &mut List,
     notes: &mut Notes,
 ) {
-    if faults::is_good(line, word, notes) {
+    if faults::is_to_follow(line, word, notes) {
         follow(word, line, region, before, answer, list, notes);
     }
 }

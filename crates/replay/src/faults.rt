@@ -73,8 +73,19 @@ fn has_value(word: u64, notes: &mut Notes) -> bool {
     true
 }
 
+fn has_word(word: u64, notes: &mut Notes) -> bool {
+    if word < Word::CASES {
+        return true;
+    }
+    report::fault(notes, b"it is no line of a block");
+    false
+}
+
 // The line may be followed.
-pub fn is_good(line: &Line, word: u64, notes: &mut Notes) -> bool {
+fn is_good(line: &Line, word: u64, notes: &mut Notes) -> bool {
+    if !has_word(word, notes) {
+        return false;
+    }
     if !has_fields(line, word, notes) {
         return false;
     }
@@ -85,6 +96,56 @@ pub fn is_good(line: &Line, word: u64, notes: &mut Notes) -> bool {
         return false;
     }
     has_value(word, notes)
+}
+
+// The block that has begun ends here, and counts as a case.
+pub fn close(notes: &mut Notes) {
+    report::settle(notes);
+    notes::count(notes, Note::CASES);
+}
+
+// What follows a fault is passed over until the next case begins.
+fn give_up(word: u64, notes: &mut Notes) {
+    if notes[Note::WORD] < Word::END || word == Word::CASE {
+        close(notes);
+    }
+    notes[Note::WORD] = Word::NONE;
+}
+
+// A case begins where a block has no end yet.
+fn close_unended(word: u64, notes: &mut Notes) {
+    if word == Word::CASE {
+        if notes[Note::WORD] < Word::END {
+            report::fault(notes, b"the block before it has no end");
+            close(notes);
+            notes[Note::WORD] = Word::END;
+        }
+    }
+}
+
+// The line is passed over, since it follows a fault.
+fn is_passed(word: u64, notes: &Notes) -> bool {
+    notes[Note::WORD] == Word::NONE && word != Word::CASE
+}
+
+// The line may be followed. If not, it is said why, and the block is given up.
+pub fn is_to_follow(line: &Line, word: u64, notes: &mut Notes) -> bool {
+    if is_passed(word, notes) {
+        return false;
+    }
+    close_unended(word, notes);
+    if is_good(line, word, notes) {
+        return true;
+    }
+    give_up(word, notes);
+    false
+}
+
+// A line that is none.
+pub fn bad_line(notes: &mut Notes, what: &[u8]) {
+    notes::count(notes, Note::PLACE);
+    report::fault(notes, what);
+    give_up(Word::NONE, notes);
 }
 
 // The file's first line says how many cases there are.
@@ -102,18 +163,22 @@ pub fn header(line: &Line, word: u64, notes: &mut Notes) {
     }
 }
 
-// A line for people stands between blocks, just before a case.
+// A line for people stands just before a case.
 pub fn remark(notes: &mut Notes) {
-    if notes[Note::WORD] == Word::END {
+    let last = notes[Note::WORD];
+    if last == Word::END {
         notes[Note::WORD] = Word::REMARK;
-        return;
+    } else if last != Word::NONE {
+        report::fault(notes, b"it may not stand here");
     }
-    report::fault(notes, b"it may not stand here");
 }
 
 // The file ends behind a block.
 pub fn end(notes: &mut Notes) {
-    if notes[Note::WORD] != Word::END {
-        report::fault(notes, b"the file ends here");
+    let last = notes[Note::WORD];
+    if last != Word::END {
+        if last != Word::NONE {
+            report::fault(notes, b"the file ends here");
+        }
     }
 }

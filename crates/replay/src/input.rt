@@ -11,10 +11,11 @@ enum Byte {
     Nothing,
 }
 
-// What became of a line: it stands whole, without its newline; it has none, or more bytes than a line may have; or the input is
-// at its end.
+// What became of a line: it stands whole, without its newline; it has more bytes than a line may have; it has no newline; or the
+// input is at its end.
 pub enum Taken {
     Whole,
+    TooLong,
     Unended,
     Nothing,
 }
@@ -44,13 +45,13 @@ fn take(input: &mut Input, notes: &mut Notes) -> Byte {
     Byte::Nothing
 }
 
-// One byte more of the line: true if the line goes on.
+// One byte more of the line: true if the line goes on. What a line is too long by is passed over, but for one byte.
 fn put(line: &mut Line, notes: &mut Notes, byte: u8) -> bool {
     let at = notes[Note::LENGTH];
     if byte == b'\n' {
         return false;
     }
-    if at < 128 {
+    if at <= 120 {
         line[at as usize] = byte;
         notes[Note::LENGTH] = at + 1;
     }
@@ -76,6 +77,14 @@ fn turn(input: &mut Input, line: &mut Line, notes: &mut Notes) -> Went {
     }
 }
 
+fn ended(notes: &Notes) -> Taken {
+    if notes[Note::LENGTH] <= 120 {
+        Taken::Whole
+    } else {
+        Taken::TooLong
+    }
+}
+
 fn broken(notes: &Notes) -> Taken {
     if notes[Note::LENGTH] == 0 {
         Taken::Nothing
@@ -84,15 +93,15 @@ fn broken(notes: &Notes) -> Taken {
     }
 }
 
-// The next line. One that is too long is taken in parts, each of which is said to have no end.
+// The next line. Nothing says that it ends, so the loop counts its turns down, from a number that no run uses up.
 pub fn line(input: &mut Input, line: &mut Line, notes: &mut Notes) -> Taken {
     notes[Note::LENGTH] = 0;
-    let mut left: usize = 121;
+    let mut left = u64::MAX;
     while left > 0 {
         match turn(input, line, notes) {
             Went::Goes => {}
             Went::Ends => {
-                return Taken::Whole;
+                return ended(notes);
             }
             Went::Breaks => {
                 return broken(notes);
@@ -100,5 +109,5 @@ pub fn line(input: &mut Input, line: &mut Line, notes: &mut Notes) -> Taken {
         }
         left -= 1;
     }
-    Taken::Unended
+    Taken::TooLong
 }

@@ -16,7 +16,7 @@ fn slot_field(region: &Region, at: usize, width: usize, field: usize, notes: &mu
     let found = entries::number_at(region, at, width);
     report::same_at(
         notes,
-        b"field of the log's line",
+        b"the log line's field",
         field as u64,
         expected,
         found,

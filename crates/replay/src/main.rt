@@ -22,6 +22,7 @@ use list::List;
 use notes::Note;
 use notes::Notes;
 use words::Line;
+use words::Word;
 
 // One line of the file: false at the file's end.
 fn next(
@@ -38,8 +39,12 @@ fn next(
             block::line(line, region, before, answer, list, notes);
             true
         }
+        Taken::TooLong => {
+            faults::bad_line(notes, b"it is too long");
+            true
+        }
         Taken::Unended => {
-            report::fault(notes, b"no newline ends it, or it is too long");
+            faults::bad_line(notes, b"no newline ends it");
             true
         }
         Taken::Nothing => false,
@@ -70,6 +75,7 @@ fn main() {
     let mut answer = [0u8; 128];
     let mut list = [0u8; 868];
     let mut notes = [0u64; 1320];
+    notes[Note::WORD] = Word::REMARK;
     all(
         &mut input,
         &mut line,

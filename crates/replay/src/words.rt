@@ -51,12 +51,12 @@ impl Word {
 
     pub const ROLLBACK: u64 = 20;
 
-    // The file's first line, a line for people, and what is no line of the format.
+    // The file's first line, what is no line of the format, and a line for people.
     pub const CASES: u64 = 21;
 
-    pub const REMARK: u64 = 22;
+    pub const NONE: u64 = 22;
 
-    pub const NONE: u64 = 23;
+    pub const REMARK: u64 = 23;
 }
 
 // The byte at a place; 0 where a line has none.

@@ -23,6 +23,9 @@ enum-told c = search needs
 enum-told-2 : tie.Need-enum-told-2 Inv-loop μ-loop
 enum-told-2 c = search needs
 
+ended-requires : tie.Need-ended-requires Inv-loop μ-loop
+ended-requires c κs = search needs
+
 returns : tie.Need-returns Inv-loop μ-loop
 returns c = search needs
 
@@ -58,6 +61,7 @@ line-spec =
     turn-requires
     enum-told
     enum-told-2
+    ended-requires
     returns
     enum-told-3
     broken-requires
