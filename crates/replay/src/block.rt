@@ -76,9 +76,10 @@ fn prepare(
     notes[Note::NUMBER] = list::prepare(region, list, edits, mode, answer);
 }
 
-// What was prepared is judged as a whole, before commit or rollback ends it.
+// What was prepared is judged as a whole, before commit or rollback ends it. Prepare changes no value.
 fn judge_prepared(region: &mut Region, answer: &mut Answer, notes: &mut Notes) {
     judge::rows(region, answer, notes);
+    judge::values(region, answer, notes);
     judge::locks(region, answer, notes);
     judge::give_up_locks(notes);
     notes::clear_values(notes);

@@ -1,3 +1,4 @@
+-- The measure is the number of turns that are left. Nothing has to hold from turn to turn.
 use borrow.Author.Needs.{needs}
 use Rattle.replay.proofs.all.Statement.{statement}
 use Rattle.replay.proofs.all.Tie as tie

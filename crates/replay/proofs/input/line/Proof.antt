@@ -1,3 +1,5 @@
+-- The measure is the number of turns that are left. Nothing has to hold from turn to turn: how long the line is so far is tested
+-- where a byte is put.
 use borrow.Author.Needs.{needs}
 use Rattle.replay.proofs.input.line.Statement.{statement}
 use Rattle.replay.proofs.input.line.Tie as tie

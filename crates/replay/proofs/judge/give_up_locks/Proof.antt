@@ -1,3 +1,4 @@
+-- The measure is how many names are left. What is no name's number is tested where the table is read.
 use borrow.Author.Needs.{needs}
 use Rattle.replay.proofs.judge.give_up_locks.Statement.{statement}
 use Rattle.replay.proofs.judge.give_up_locks.Tie as tie

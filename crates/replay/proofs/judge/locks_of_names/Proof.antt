@@ -1,3 +1,4 @@
+-- The measure is how many names are left.
 use borrow.Author.Needs.{needs}
 use Rattle.replay.proofs.judge.locks_of_names.Statement.{statement}
 use Rattle.replay.proofs.judge.locks_of_names.Tie as tie

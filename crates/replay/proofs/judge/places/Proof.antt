@@ -1,3 +1,4 @@
+-- The measure is how many places of the record are left.
 use borrow.Author.Needs.{needs}
 use Prim.Native.Nat.{_-_}
 use Rattle.replay.proofs.judge.places.Statement.{statement}

@@ -1,3 +1,4 @@
+-- The measure is how many places are left. That a place is one of the notes is tested where it becomes 0.
 use borrow.Author.Needs.{needs}
 use Rattle.replay.proofs.notes.clear.Statement.{statement}
 use Rattle.replay.proofs.notes.clear.Tie as tie

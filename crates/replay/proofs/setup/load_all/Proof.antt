@@ -1,3 +1,4 @@
+-- The measure is how many names are left.
 use borrow.Author.Needs.{needs}
 use Rattle.replay.proofs.setup.load_all.Statement.{statement}
 use Rattle.replay.proofs.setup.load_all.Tie as tie

@@ -1,3 +1,4 @@
+-- The measure is how many bytes of the line are left.
 use borrow.Author.Needs.{needs}
 use Prim.Native.Nat.{_-_}
 use Rattle.replay.proofs.words.scanned.Statement.{statement}
