@@ -85,6 +85,25 @@ pub fn place(answer: &Answer, i: u64) -> u64 {
     }
 }
 
+// Where docs/LAYOUT.md has what no call tells. It is written down anew here, so that a wrong place in the library is seen.
+pub struct At {}
+
+impl At {
+    pub const LINE_COUNT: usize = 8;
+
+    pub const LOOSES: usize = 16653;
+
+    pub const LOOSE_WIDTH: usize = 9;
+
+    pub const PACKEDS: usize = 18957;
+
+    pub const PACKED_WIDTH: usize = 8;
+
+    pub const LINES: usize = 27021;
+
+    pub const LINE_WIDTH: usize = 22;
+}
+
 // The number in some bytes of the region, where they lie in it; else 0.
 pub fn number_at(region: &Region, at: usize, width: usize) -> u64 {
     if width <= 8 {
@@ -93,4 +112,13 @@ pub fn number_at(region: &Region, at: usize, width: usize) -> u64 {
         }
     }
     0
+}
+
+// Puts a number into bytes of the region, where they lie in it.
+pub fn put_number(region: &mut Region, at: usize, width: usize, x: u64) {
+    if width <= 8 {
+        if at <= 49549 - width {
+            word::put_at(region, at, width, x);
+        }
+    }
 }

@@ -1,12 +1,12 @@
 // What the calls answered and left, against what is recorded.
 use crate::entries;
 use crate::entries::Answer;
+use crate::entries::At;
 use crate::entries::Region;
 use crate::notes;
 use crate::notes::Note;
 use crate::notes::Notes;
 use crate::report;
-use region::Layout;
 
 // ---- answers
 
@@ -154,7 +154,7 @@ pub fn give_up_locks(notes: &mut Notes) {
 // No call tells a loose value from a packed one. So both are read in the region.
 fn loose(region: &Region, name: u64, notes: &mut Notes) {
     if name < 256 {
-        let at = Layout::LOOSES + name as usize * Layout::LOOSE_WIDTH;
+        let at = At::LOOSES + name as usize * At::LOOSE_WIDTH;
         let kind = entries::number_at(region, at, 1);
         let number = entries::number_at(region, at + 1, 8);
         let kind_told = notes::of_name(notes, Note::LOOSE_KIND, name);
@@ -172,7 +172,7 @@ fn loose(region: &Region, name: u64, notes: &mut Notes) {
 
 fn packed(region: &Region, name: u64, notes: &mut Notes) {
     if name < 256 {
-        let at = Layout::PACKEDS + name as usize * Layout::PACKED_WIDTH;
+        let at = At::PACKEDS + name as usize * At::PACKED_WIDTH;
         let number = entries::number_at(region, at, 8);
         let told = notes::of_name(notes, Note::PACKED, name);
         report::same_at(notes, b"packed value of name", name, told, number);

@@ -6,11 +6,12 @@ use crate::entries::Region;
 use crate::notes;
 use crate::notes::Notes;
 
-pub type List = [u8; 868];
+// Room for one edit more than a list may have.
+pub type List = [u8; 895];
 
 fn put(list: &mut List, at: usize, width: usize, x: u64) {
     if width <= 8 {
-        if at <= 868 - width {
+        if at <= 895 - width {
             word::put_at(list, at, width, x);
         }
     }
@@ -18,7 +19,7 @@ fn put(list: &mut List, at: usize, width: usize, x: u64) {
 
 // The line's fields, from kind to expected.
 fn put_flags(list: &mut List, at: usize, notes: &Notes)
-    requires { ⌜ at ≤ 868 ⌝ }
+    requires { ⌜ at ≤ 895 ⌝ }
 {
     put(list, at, 1, notes::field(notes, 0));
     put(list, at + 1, 1, notes::field(notes, 1));
@@ -29,7 +30,7 @@ fn put_flags(list: &mut List, at: usize, notes: &Notes)
 
 // The expected target and the new one.
 fn put_targets(list: &mut List, at: usize, notes: &Notes)
-    requires { ⌜ at ≤ 868 ⌝ }
+    requires { ⌜ at ≤ 895 ⌝ }
 {
     put(list, at + 5, 1, notes::field(notes, 5));
     put(list, at + 6, 8, notes::field(notes, 6));
@@ -38,7 +39,7 @@ fn put_targets(list: &mut List, at: usize, notes: &Notes)
 }
 
 fn put_rest(list: &mut List, at: usize, notes: &Notes)
-    requires { ⌜ at ≤ 868 ⌝ }
+    requires { ⌜ at ≤ 895 ⌝ }
 {
     put(list, at + 23, 2, notes::field(notes, 9));
     put(list, at + 25, 2, notes::field(notes, 10));
@@ -46,7 +47,7 @@ fn put_rest(list: &mut List, at: usize, notes: &Notes)
 
 // The line's fields as the record of an edit at a place of the list.
 pub fn put_edit(list: &mut List, place: u64, notes: &Notes) {
-    if place < 32 {
+    if place <= 32 {
         let at = 4 + 27 * place as usize;
         put_flags(list, at, notes);
         put_targets(list, at, notes);
@@ -56,7 +57,7 @@ pub fn put_edit(list: &mut List, place: u64, notes: &Notes) {
 
 // The header of a list of so many edits.
 fn put_header(list: &mut List, edits: u64) {
-    if edits <= 32 {
+    if edits <= 33 {
         put(list, 0, 1, 1);
         put(list, 1, 2, 1 + 27 * edits);
         put(list, 3, 1, edits);
@@ -88,7 +89,7 @@ pub fn prepare(
     answer: &mut Answer,
 ) -> u64 {
     put_header(list, edits);
-    if 32 < edits {
+    if 33 < edits {
         return 2;
     }
     prepare_part(region, list, 4 + 27 * edits as usize, mode, answer)

@@ -2,13 +2,13 @@
 // which a call reads.
 use crate::entries;
 use crate::entries::Answer;
+use crate::entries::At;
 use crate::entries::Region;
 use crate::judge;
 use crate::notes;
 use crate::notes::Note;
 use crate::notes::Notes;
 use crate::report;
-use region::Layout;
 
 // A field of the slot of a line.
 fn slot_field(region: &Region, at: usize, width: usize, field: usize, notes: &mut Notes) {
@@ -35,11 +35,7 @@ fn slot(region: &Region, at: usize, notes: &mut Notes) {
 
 fn in_log(region: &Region, place: u64, notes: &mut Notes) {
     if place < 1024 {
-        slot(
-            region,
-            Layout::LINES + place as usize * Layout::LINE_WIDTH,
-            notes,
-        );
+        slot(region, At::LINES + place as usize * At::LINE_WIDTH, notes);
     }
 }
 
@@ -82,7 +78,7 @@ fn no_more(region: &Region, name: u64, answer: &mut Answer, notes: &mut Notes) {
 // The log has these lines and no more.
 pub fn end(region: &Region, answer: &mut Answer, notes: &mut Notes) {
     let expected = notes[Note::LINES];
-    let found = entries::number_at(region, Layout::LINE_COUNT, 2);
+    let found = entries::number_at(region, At::LINE_COUNT, 2);
     report::same(notes, b"lines of the log", expected, found);
     let mut left = notes[Note::NAMES];
     while left > 0 {

@@ -10,6 +10,7 @@ mod list;
 mod log;
 mod notes;
 mod order;
+mod probes;
 mod report;
 mod setup;
 mod words;
@@ -73,7 +74,7 @@ fn main() {
     let mut region = [0u8; 49549];
     let mut before = [0u8; 49549];
     let mut answer = [0u8; 128];
-    let mut list = [0u8; 868];
+    let mut list = [0u8; 895];
     let mut notes = [0u64; 1320];
     notes[Note::WORD] = Word::REMARK;
     all(
@@ -86,5 +87,6 @@ fn main() {
         &mut notes,
     );
     faults::end(&mut notes);
+    probes::all(&mut region, &mut list, &mut answer, &mut notes);
     report::end(&mut notes);
 }
