@@ -17,7 +17,7 @@ use crate::text;
 use std::time::Instant;
 
 /// Where the recorded cases stand, seen from the project's directory.
-const RECORDED: &str = "tests/rust/cases.txt";
+const RECORDED: &str = "crates/replay/stdin";
 
 /// All of the exhaustive cases, and so many random ones.
 pub fn all(site: &Site, count: u64, seed: u64) -> bool {
