@@ -224,6 +224,14 @@ fn prepared(region: &mut Region, list: &mut List, answer: &mut Answer, notes: &m
     load_packed(region, 1, 1, 5, answer, notes, 15);
 }
 
+// A committer that is too large is refused, and the transaction stays prepared.
+fn strangers(region: &mut Region, answer: &mut Answer, notes: &mut Notes) {
+    let first = entries::commit(region, 65536, 1, answer);
+    is(notes, b"commit", first, answer, 2, 0);
+    let second = entries::commit(region, 18446744073709551615, 1, answer);
+    is(notes, b"commit", second, answer, 2, 0);
+}
+
 fn unprepared(region: &mut Region, answer: &mut Answer, notes: &mut Notes) {
     let first = entries::rollback(region, answer);
     is(notes, b"rollback", first, answer, 0, 1);
@@ -373,6 +381,7 @@ fn lists(region: &mut Region, list: &mut List, answer: &mut Answer, notes: &mut 
     no_links(region, list, answer, notes);
     too_many(region, list, answer, notes);
     prepared(region, list, answer, notes);
+    strangers(region, answer, notes);
     unprepared(region, answer, notes);
 }
 
