@@ -1,6 +1,6 @@
 -- What the reply to a commit of a prepared transaction says, by its number and its report. Assumes nothing.
 use mathlib.Core.Path.{_≡_, refl, sym, ap, _∙_, subst}
-use mathlib.Core.Bool.{Bool, true, false, _&&_}
+use mathlib.Core.Bool.{Bool, true, false, and-false}
 use mathlib.Core.List.{List, [], _∷_}
 use mathlib.Core.Option.{Option, none, some}
 use Prim.Native.Nat.{ℕ, _≤_, _<_}
@@ -88,10 +88,6 @@ module _ (s : Store) (p : isPrepared (s .prepared) ≡ true) (c k : ℕ) where
 
       many : n ≡ length (permitted (by c) (writes (by c) s))
       many = ap length (sym may)
-
-      and-false : (b : Bool) → (b && false) ≡ false
-      and-false true = refl
-      and-false false = refl
 
       go : (why : Option Stop) → ran .stop ≡ why → answerOf nameOffset (ended ran why) .number ≡ numberAt c k s
       go none e =

@@ -1,14 +1,18 @@
 -- The loop over the places: two turns a place; what is left of the list, by the store as it is, comes to the same run. Assumes
 -- nothing.
 use mathlib.Core.Path.{_≡_, refl, sym, ap, ap₂, _∙_, subst}
+use mathlib.Core.Bool.{Bool}
 use mathlib.Core.List.{List, [], _∷_, _++_}
 use mathlib.Core.Option.{Option}
 use Prim.Native.Nat.{ℕ, suc, _+_, _*_, _-_, _≤_, _<_}
 use native.Mathlib.Omega.{arith}
 use native.Mathlib.Numerals.{add-one}
 use lib.ListN.{length}
+use Rattle.word.specs.Flags.{Flags}
+use Rattle.transaction.specs.declared.Edit.{Edit}
 use Rattle.model.specs.Store.{Store, Prepared, count, rowsIn}
-use Rattle.model.specs.Due.{Stamp}
+use Rattle.model.specs.Rows.{nameIn}
+use Rattle.model.specs.Due.{Stamp, hasLines}
 use Rattle.model.specs.Writes.{Write, apply, writes}
 use Rattle.model.specs.Commit.{Run, linesIn, run, committing}
 use Rattle.model.specs.Fine.{Fine}
@@ -18,7 +22,9 @@ use Rattle.model.proofs.KeptCommit.{apply-room, lines-append, writes-lines}
 use Rattle.model.proofs.RowFacts.{alone, held}
 use Rattle.region.specs.Region.{view, Laid}
 use Rattle.rows.specs.Rows.{Named, Apart}
-use Rattle.writes.specs.Next.{rowsOf, modeOf, firstAt, secondAt, places, ahead}
+use Rattle.rows.specs.Due.{lined}
+use Rattle.writes.specs.Next.{rowsOf, modeOf, theRow, firstAt, secondAt, places, ahead}
+use Rattle.writes.specs.Told.{tells, Told}
 use Rattle.writes.proofs.Steps.{first-stays, second-stays}
 use Rattle.writes.proofs.Whole.{whole}
 use Rattle.committing.specs.declared.Halt.{Halt}
@@ -34,6 +40,17 @@ fine-named s f = record { named = λ i h. held s f i h }
 
 fine-apart : (s : Store) → Fine s → Apart (rowsOf s)
 fine-apart s f = record { apart = λ i j h g d e. alone s f j g i h d e }
+
+-- flags that were raised just now tell of every row
+told-first : (flags : List Bool) (s : Store) → Named s → count s ≤ 256 → Flags (lined s) flags → Told flags s (rowsOf s) 0
+told-first flags s n few up = record { line = λ i m g. tells-so i g; log = λ i m g d. tells-so i g }
+  where
+    tells-so : (i : ℕ) → i < length (rowsOf s) → tells flags (theRow s i) ≡ hasLines s (nameIn (theRow s i))
+    tells-so i g = up .flag (nameIn (theRow s i) .0) (omega (arith, n .named i g))
+
+-- what they tell before a place, they tell before the next
+told-later : (flags : List Bool) (s : Store) (rows : List Edit) (k : ℕ) → Told flags s rows k → Told flags s rows (suc k)
+told-later flags s rows k t = record { line = λ i m g. t .line i (omega arith) g; log = λ i m g d. t .log i (omega arith) g d }
 
 -- ---- the run so far, with the writes that are left, by the store as it is
 
@@ -92,13 +109,15 @@ pub record Many (r₀ : List ℕ) (p : ℕ) : Type 0 where
   pub few : p ≤ 481
 
 -- before place k, and between its first write and its second
-pub record Before (c : ℕ) (z : Run) (r₀ : List ℕ) (p k : ℕ) (at : Ran) (r : List ℕ) : Type 0 where
+pub record Before (c : ℕ) (z : Run) (r₀ : List ℕ) (flags : List Bool) (p k : ℕ) (at : Ran) (r : List ℕ) : Type 0 where
   pub on : On c z r₀ (λ s. ahead (by c) s k (p - k)) (k + k) at r
+  pub told : Told flags (view r) (rowsOf (view r)) k
   pub all : Many r₀ p
   pub upto : k ≤ p
 
-record Between (c : ℕ) (z : Run) (r₀ : List ℕ) (p k : ℕ) (at : Ran) (r : List ℕ) : Type 0 where
+record Between (c : ℕ) (z : Run) (r₀ : List ℕ) (flags : List Bool) (p k : ℕ) (at : Ran) (r : List ℕ) : Type 0 where
   pub on : On c z r₀ (λ s. secondAt s k ++ ahead (by c) s (suc k) (p - suc k)) (suc (k + k)) at r
+  pub told : Told flags (view r) (rowsOf (view r)) (suc k)
   pub all : Many r₀ p
   pub upto : k < p
 
@@ -118,10 +137,13 @@ nothing-left stamp a GoesOn s e = rw e refl
 nothing-left stamp a NoCommitter s e = rw e refl
 nothing-left stamp a UsedUp s e = rw e refl
 
-module _ (c : ℕ) (z : Run) (r₀ : List ℕ) (p k : ℕ) (at : Ran) (r : List ℕ) (f : Fine (view r₀)) where
-  module _ (h : Before c z r₀ p k at r) where
+module _ (c : ℕ) (z : Run) (r₀ : List ℕ) (flags : List Bool) (p k : ℕ) (at : Ran) (r : List ℕ) (f : Fine (view r₀)) where
+  module _ (h : Before c z r₀ flags p k at r) where
     pub before-laid : Laid r
     before-laid = h .on .laid
+
+    pub before-told : Told flags (view r) (rowsOf (view r)) k
+    before-told = h .told
 
     pub before-named : Named (view r)
     before-named = on-named c z r₀ _ _ at r (h .on) f
@@ -154,10 +176,16 @@ module _ (c : ℕ) (z : Run) (r₀ : List ℕ) (p k : ℕ) (at : Ran) (r : List 
     first-behind l w e =
         let st = first-stays (by c) (view r) before-apart k (p - suc k) (omega (arith, same-places)) w e in ap₂ _++_ (st .0) (st .1)
 
-    between : (b : Ran) (r′ : List ℕ) → k < p → Turned (by c) at (firstAt (by c) (view r) k) b r r′ → length r′ ≡ length r → Between c z r₀ p k b r′
+    first-told : (b : Ran) (r′ : List ℕ) → k < p → Turned (by c) at (firstAt (by c) (view r) k) b r r′ → Told flags (view r′) (rowsOf (view r′)) (suc k)
+    first-told b r′ l t =
+        either (by c) (firstAt (by c) (view r) k) at b r r′ t (λ (s : Store). Told flags s (rowsOf s) (suc k)) (told-later flags (view r) (rowsOf (view r)) k (h .told))
+        (λ w e. first-stays (by c) (view r) before-apart k (p - suc k) (omega (arith, same-places)) w e .2 flags (h .told))
+
+    between : (b : Ran) (r′ : List ℕ) → k < p → Turned (by c) at (firstAt (by c) (view r) k) b r r′ → length r′ ≡ length r → Between c z r₀ flags p k b r′
     between b r′ l t e = record {
       on = turned-on c z r₀ (λ s. ahead (by c) s k (p - k)) (λ s. secondAt s k ++ ahead (by c) s (suc k) (p - suc k)) (k + k) at b
           (firstAt (by c) (view r) k) r r′ (h .on) (split l) (first-behind l) t e;
+      told = first-told b r′ l t;
       all = h .all;
       upto = l;
     }
@@ -168,7 +196,7 @@ module _ (c : ℕ) (z : Run) (r₀ : List ℕ) (p k : ℕ) (at : Ran) (r : List 
       run = nothing-left (by c) at (at .stop) (view r) refl ∙ ap (λ (ws : List Write). rest (by c) at ws (view r)) (sym (ahead-none (by c) (view r) k (p - k) (omega arith))) ∙ h .on .comes;
     }
 
-  module _ (h : Between c z r₀ p k at r) where
+  module _ (h : Between c z r₀ flags p k at r) where
     between-apart : Apart (rowsOf (view r))
     between-apart = on-apart c z r₀ _ _ at r (h .on) f
 
@@ -176,31 +204,34 @@ module _ (c : ℕ) (z : Run) (r₀ : List ℕ) (p k : ℕ) (at : Ran) (r : List 
     same-places-2 =
         ap (λ (o : Option Prepared). length (rowsIn o) + length (rowsIn o) + length (rowsIn o) + 1) (h .on .kept) ∙ sym (h .all .places)
 
-    second-behind : (w : Write) → secondAt (view r) k ≡ w ∷ [] → ahead (by c) (apply w (view r)) (suc k) (p - suc k) ≡ ahead (by c) (view r) (suc k) (p - suc k)
-    second-behind w e = second-stays (by c) (view r) between-apart k (p - suc k) (omega (arith, same-places-2, h .upto)) w e
+    second-left : (w : Write) → secondAt (view r) k ≡ w ∷ []
+        → (ahead (by c) (apply w (view r)) (suc k) (p - suc k) ≡ ahead (by c) (view r) (suc k) (p - suc k)) × Told flags (apply w (view r)) (rowsOf (apply w (view r))) (suc k)
+    second-left w e =
+        let st = second-stays (by c) (view r) between-apart k (p - suc k) (omega (arith, same-places-2, h .upto)) w e in (st .0, st .1 flags (h .told))
 
-    before-next : (b : Ran) (r′ : List ℕ) → Turned (by c) at (secondAt (view r) k) b r r′ → length r′ ≡ length r → Before c z r₀ p (k + 1) b r′
+    before-next : (b : Ran) (r′ : List ℕ) → Turned (by c) at (secondAt (view r) k) b r r′ → length r′ ≡ length r → Before c z r₀ flags p (k + 1) b r′
     before-next b r′ t e =
-        let g : Before c z r₀ p (suc k) b r′ = record {
+        let g : Before c z r₀ flags p (suc k) b r′ = record {
           on = subst (λ (m : ℕ). On c z r₀ (λ s. ahead (by c) s (suc k) (p - suc k)) m b r′) (omega arith)
               (turned-on c z r₀ (λ s. secondAt s k ++ ahead (by c) s (suc k) (p - suc k)) (λ s. ahead (by c) s (suc k) (p - suc k)) (suc (k + k)) at b
-              (secondAt (view r) k) r r′ (h .on) refl second-behind t e);
+              (secondAt (view r) k) r r′ (h .on) refl (λ w e. second-left w e .0) t e);
+          told = either (by c) (secondAt (view r) k) at b r r′ t (λ (s : Store). Told flags s (rowsOf s) (suc k)) (h .told) (λ w e. second-left w e .1);
           all = h .all;
           upto = omega (arith, h .upto);
         } in
-        subst (λ (j : ℕ). Before c z r₀ p j b r′) (sym (add-one k)) g
+        subst (λ (j : ℕ). Before c z r₀ flags p j b r′) (sym (add-one k)) g
 
 -- one place: its first turn, and its second
-pub place-done : (c : ℕ) (z : Run) (r₀ : List ℕ) (p k : ℕ) (at b : Ran) (r r′ : List ℕ) → Fine (view r₀) → Before c z r₀ p k at r → k < p
-    → Placed (by c) at k b r r′ → length r′ ≡ length r → Before c z r₀ p (k + 1) b r′
-place-done c z r₀ p k at b r r′ f h l t e =
-    before-next c z r₀ p k (t .half) (t .between) f (between c z r₀ p k at r f h (t .half) (t .between) l (t .first) (t .size)) b r′ (t .second) (e ∙ sym (t .size))
+pub place-done : (c : ℕ) (z : Run) (r₀ : List ℕ) (flags : List Bool) (p k : ℕ) (at b : Ran) (r r′ : List ℕ) → Fine (view r₀) → Before c z r₀ flags p k at r → k < p
+    → Placed (by c) at k b r r′ → length r′ ≡ length r → Before c z r₀ flags p (k + 1) b r′
+place-done c z r₀ flags p k at b r r′ f h l t e =
+    before-next c z r₀ flags p k (t .half) (t .between) f (between c z r₀ flags p k at r f h (t .half) (t .between) l (t .first) (t .size)) b r′ (t .second) (e ∙ sym (t .size))
 
 -- every place is ahead
-pub before-start : (c allowance n : ℕ) (r : List ℕ) → Laid r → Fine (view r) → c ≤ 65535 → n ≡ length (rowsOf (view r))
-    → Before c (committing (by c) allowance (view r)) r (n * 3 + 1) 0 (record { left = allowance; made = 0; stop = GoesOn }) r
+pub before-start : (c allowance n : ℕ) (r : List ℕ) (flags : List Bool) → Laid r → Fine (view r) → Flags (lined (view r)) flags → c ≤ 65535
+    → n ≡ length (rowsOf (view r)) → Before c (committing (by c) allowance (view r)) r flags (n * 3 + 1) 0 (record { left = allowance; made = 0; stop = GoesOn }) r
 unfolding rest committing
-before-start c allowance n r l f small en =
+before-start c allowance n r flags l f up small en =
     let e : n * 3 + 1 - 0 ≡ places (view r) = omega arith in
     let w : ahead (by c) (view r) 0 (n * 3 + 1 - 0) ≡ writes (by c) (view r) = ap (ahead (by c) (view r) 0) e ∙ whole (by c) (view r) in
     record {
@@ -215,6 +246,7 @@ before-start c allowance n r l f small en =
         made = omega arith;
         comes = ap (λ (ws : List Write). run (by c) allowance ws 0 (view r)) w;
       };
+      told = told-first flags (view r) (fine-named (view r) f) (l .names) up;
       all = record { places = omega arith; few = omega (arith, l .rows) };
       upto = omega arith;
     }

@@ -74,6 +74,6 @@ module _ (s : Store) (x : OptionWrite) (m : Makes s x) where
   unfolding Makes
   pack-apart e = subst (Makes s) e m .1
 
-  pub gone-named : (n : NameNumber) → x ≡ next.RemoveLoose n → n .0 < count s
+  pub removed-named : (n : NameNumber) → x ≡ next.RemoveLoose n → n .0 < count s
   unfolding Makes
-  gone-named n e = subst (Makes s) e m
+  removed-named n e = subst (Makes s) e m

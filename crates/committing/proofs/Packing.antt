@@ -5,7 +5,7 @@ use mathlib.Core.List.{List, [], _∷_, _++_}
 use Prim.Native.Nat.{ℕ, suc, _+_, _-_, _≤_, _<_}
 use native.Mathlib.Omega.{arith}
 use native.Mathlib.Numerals.{add-one}
-use lib.ListN.{length, getD, drop, drop-of-length-le, length-drop, length-set}
+use lib.ListN.{length, getD, drop, drop-of-length-le, length-drop}
 use lib.Seq.{drop-cons, getD-drop}
 use Rattle.target.specs.declared.NameNumber.{NameNumber}
 use Rattle.target.specs.declared.OptionTarget.{OptionTarget}
@@ -21,6 +21,8 @@ use Rattle.model.specs.Store.{Store, Entry, noEntry, noRow, count, entryAt, ent
 use Rattle.model.specs.Rows.{nameIn, changeIn, rowAt, counts, packsUpdates}
 use Rattle.model.specs.Writes.{PackedEdit, apply, applyPacked, packedSet, packedEdit, packedEdits}
 use Rattle.model.specs.Writes.Write.{writePacked}
+use Rattle.model.proofs.Places.{collect-same}
+use Rattle.model.proofs.KeptCommit.{applied-count}
 use Rattle.model.proofs.Switch.{whole, quiet-step}
 use Rattle.model.proofs.Touch.{entry-after}
 use Rattle.model.proofs.RowSteps.{other-packed}
@@ -35,8 +37,8 @@ use Rattle.rows.specs.Rows.{Named, Apart}
 
 -- ---- one row's part of the packed write
 
-pub row-named : (s : Store) (i : ℕ) (r : Edit) → Named s → i < length (rowsOf s) → r ≡ theRow s i → nameIn r .0 < count s
-row-named s i r n l er = rw er (n .named i l)
+pub packed-named : (s : Store) (i : ℕ) (r : Edit) → Named s → i < length (rowsOf s) → r ≡ theRow s i → nameIn r .0 < count s
+packed-named s i r n l er = rw er (n .named i l)
 
 -- the value that is set is none, or the object of a row that fits
 abbrev one : NameNumber → Packed → List PackedEdit
@@ -89,10 +91,6 @@ packed-append : (ps qs : List PackedEdit) (es : List Entry) → applyPacked (ps 
 packed-append [] qs es = refl
 packed-append (p ∷ ps) qs es = packed-append ps qs (changeAt (putPacked (p .value)) (p .name .0) es)
 
-packed-count : (ps : List PackedEdit) (es : List Entry) → length (applyPacked ps es) ≡ length es
-packed-count [] es = refl
-packed-count (p ∷ ps) es = packed-count ps (changeAt (putPacked (p .value)) (p .name .0) es) ∙ length-set es (p .name .0) _
-
 by-entry : (t : Store) (mode : PackedRefs) (y : Edit) (es : List Entry) → getD es (nameIn y .0) noEntry ≡ getD (t .entries) (nameIn y .0) noEntry
     → packedEdit (withEntries t es) mode y ≡ packedEdit t mode y
 unfolding packedEdit counts
@@ -108,10 +106,6 @@ other-edit t mode x y d h = by-entry t mode y _ same
     same =
         entry-after (writePacked (packedEdit t mode x) ∷ []) t (nameIn y .0) h
         ∙ whole (quiet-step (other-packed (nameIn y .0) x d t mode) (entryAt t (nameIn y .0)))
-
-collect-at : {A B : Type 0} (f g : A → List B) (d : A) (xs : List A) → ((j : ℕ) → j < length xs → f (getD xs j d) ≡ g (getD xs j d)) → collect f xs ≡ collect g xs
-collect-at f g d [] h = refl
-collect-at f g d (x ∷ xs) h = ap₂ _++_ (h 0 (omega arith)) (collect-at f g d xs (λ j l. h (suc j) (omega arith)))
 
 -- the packed write so far: what is left of it, by the store as it is, comes to the same
 pub record Packing (r₀ : List ℕ) (mode : PackedRefs) (rows i : ℕ) (r : List ℕ) : Type 0 where
@@ -158,12 +152,12 @@ packing-more r₀ mode rows i r r′ p n a er h el b =
     let be : view r′ .entries ≡ es = ap (λ (s : Store). s .entries) b₁ in
     let stays : collect (packedEdit (view r′) mode) (drop (suc i) rs) ≡ collect (packedEdit t mode) (drop (suc i) rs) =
     ap (λ (s : Store). collect (packedEdit s mode) (drop (suc i) rs)) b₁
-    ∙ collect-at (packedEdit (withEntries t es) mode) (packedEdit t mode) noRow (drop (suc i) rs) (λ j l. later j l) in
+    ∙ collect-same (packedEdit (withEntries t es) mode) (packedEdit t mode) noRow (drop (suc i) rs) (λ j l. later j l) in
     record {
       laid = b .laid;
       same = el ∙ p .same;
       upto = omega arith;
-      many = ap length be ∙ packed-count (packedEdit t mode x) (t .entries) ∙ p .many;
+      many = ap length be ∙ applied-count (packedEdit t mode x) (t .entries) ∙ p .many;
       seen = b₁ ∙ ap (λ (s : Store). withEntries s es) (p .seen) ∙ ap (withEntries (view r₀)) (sym be);
       left =
           ap (λ (k : ℕ). applyPacked (collect (packedEdit (view r′) mode) (drop k rs)) (view r′ .entries)) (add-one i)

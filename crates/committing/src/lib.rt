@@ -6,6 +6,7 @@ ghost use mathlib.Core.List.{[], _∷_};
 ghost use Prim.Native.Nat.{_+_, _<_, _≤_};
 ghost use lib.ListN.{length};
 ghost use lib.Dec.{eqb};
+ghost use Rattle.word.specs.Flags.{Flags};
 ghost use Rattle.model.specs.Store.{isPrepared, withEntries};
 ghost use Rattle.model.specs.Rows.{rowAt};
 ghost use Rattle.model.specs.Writes.{applyPacked, packedEdit, packedEdits};
@@ -17,7 +18,9 @@ ghost use Rattle.model.specs.Numbers.{answer};
 ghost use Rattle.model.specs.Demand3.{by, applyAll};
 ghost use Rattle.region.specs.Region.{view, Laid, Became};
 ghost use Rattle.rows.specs.Rows.{Named, Apart};
+ghost use Rattle.rows.specs.Due.{lined};
 ghost use Rattle.writes.specs.Next.{rowsOf, modeOf, writeList, firstAt, secondAt, places};
+ghost use Rattle.writes.specs.Told.{Told};
 ghost use Rattle.answers.specs.Answers.{answerBy};
 ghost use Rattle.calls.specs.Call.{replyTo, Replied};
 ghost use Rattle.committing.specs.Running.{Makes, isLineWrite, isNoWrite, isGoing, haltNumber, Turned, Placed, RanOut};
@@ -25,6 +28,7 @@ use answers::Answer;
 use answers::Verdict;
 use model::Line;
 use model::Loose;
+use target::NameNumber;
 use transaction::PackedRefs;
 use writes::OptionPackedEdit;
 use writes::OptionWrite;
@@ -189,18 +193,19 @@ fn turn(region: &mut [u8], committer: u16, next: OptionWrite, at: Ran) -> Ran
     }
 }
 
-// The first write of a place, by the region as it is.
-fn first_turn(region: &mut [u8], committer: u16, k: usize, at: Ran) -> Ran
+// The first write of a place, by the region as it is; the flags tell which names have lines.
+fn first_turn(region: &mut [u8], flags: &[bool], committer: u16, k: usize, at: Ran) -> Ran
     requires { ⌜ Laid (now region) ⌝ }
     requires { ⌜ Named (view (now region)) ⌝ }
     requires { ⌜ Apart (rowsOf (view (now region))) ⌝ }
+    requires { ⌜ Told (now flags) (view (now region)) (rowsOf (view (now region))) k ⌝ }
     requires { ⌜ committer ≤ 65535 ⌝ }
     requires { ⌜ k < places (view (now region)) ⌝ }
     requires { ⌜ length (view (now region) .lines) + linesIn (firstAt (by committer) (view (now region)) k) ≤ 1024 ⌝ }
     requires { ⌜ at .made ≤ 2000 ⌝ }
     ensures { λ r. ⌜ Turned (by committer) at (firstAt (by committer) (view (now (region .entry))) k) r (now (region .entry)) (now (region .exit)) ⌝ }
 {
-    let next = writes::next_first(region, committer, k);
+    let next = writes::next_first(region, flags, committer, k);
     turn(region, committer, next, at)
 }
 
@@ -217,26 +222,28 @@ fn second_turn(region: &mut [u8], committer: u16, k: usize, at: Ran) -> Ran
 }
 
 // The two writes of a place: what the first leaves is what the second is asked of.
-fn place_turns(region: &mut [u8], committer: u16, k: usize, at: Ran) -> Ran
+fn place_turns(region: &mut [u8], flags: &[bool], committer: u16, k: usize, at: Ran) -> Ran
     requires { ⌜ Laid (now region) ⌝ }
     requires { ⌜ Named (view (now region)) ⌝ }
     requires { ⌜ Apart (rowsOf (view (now region))) ⌝ }
+    requires { ⌜ Told (now flags) (view (now region)) (rowsOf (view (now region))) k ⌝ }
     requires { ⌜ committer ≤ 65535 ⌝ }
     requires { ⌜ k < places (view (now region)) ⌝ }
     requires { ⌜ length (view (now region) .lines) + linesIn (firstAt (by committer) (view (now region)) k) ≤ 1024 ⌝ }
     requires { ⌜ at .made < 2000 ⌝ }
     ensures { λ r. ⌜ Placed (by committer) at k r (now (region .entry)) (now (region .exit)) ⌝ }
 {
-    let between = first_turn(region, committer, k, at);
+    let between = first_turn(region, flags, committer, k, at);
     second_turn(region, committer, k, between)
 }
 
 // ---- the call
 
 // W1 to W4: every place in order.
-fn commit_inner(region: &mut [u8], committer: u16, allowance: u64) -> Ran
+fn commit_places(region: &mut [u8], flags: &[bool], committer: u16, allowance: u64) -> Ran
     requires { ⌜ Laid (now region) ⌝ }
     requires { ⌜ Fine (view (now region)) ⌝ }
+    requires { ⌜ Flags (lined (view (now region))) (now flags) ⌝ }
     requires { ⌜ committer ≤ 65535 ⌝ }
     ensures { λ r. ⌜ RanOut (committing (by committer) allowance (view (now (region .entry)))) r (now (region .exit)) ⌝ }
 {
@@ -249,10 +256,22 @@ fn commit_inner(region: &mut [u8], committer: u16, allowance: u64) -> Ran
     };
     let mut k: usize = 0;
     while k < places {
-        at = place_turns(region, committer, k, at);
+        at = place_turns(region, flags, committer, k, at);
         k += 1;
     }
     at
+}
+
+// Which names have lines is gathered once. A write changes that of its own row's name alone, of which it is not asked again.
+fn commit_inner(region: &mut [u8], committer: u16, allowance: u64) -> Ran
+    requires { ⌜ Laid (now region) ⌝ }
+    requires { ⌜ Fine (view (now region)) ⌝ }
+    requires { ⌜ committer ≤ 65535 ⌝ }
+    ensures { λ r. ⌜ RanOut (committing (by committer) allowance (view (now (region .entry)))) r (now (region .exit)) ⌝ }
+{
+    let mut flags = [false; NameNumber::LIMIT];
+    rows::flag_lines(region, &mut flags);
+    commit_places(region, &flags, committer, allowance)
 }
 
 // How many writes were made, and why there are no more.

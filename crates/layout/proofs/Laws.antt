@@ -4,21 +4,22 @@ use mathlib.Core.Bool.{Bool, true, false, not, _&&_, cond, and-true}
 use mathlib.Core.List.{List, [], _∷_, _++_}
 use mathlib.Core.Option.{Option}
 use Prim.Native.Nat.{ℕ, _+_, _-_, _*_, _<_, _≤_}
+use native.Mathlib.Nat.{mul-le-mul-right}
 use native.Mathlib.Omega.{arith}
 use lib.ListN.{length, getD, drop, length-drop}
 use lib.Seq.{take-all, drop-drop}
-use lib.Dec.{eqb, leb}
+use lib.Dec.{eqb, leb, lit≤}
 use mir.Syntax.{w8, w64}
 use mir.Val.{Fits}
-use borrow.Author.Tests.{lt-leb, le-leb, eq-eqb, ne-eqb, not-true, not-false}
+use borrow.Author.Tests.{lt-leb, le-leb, leb-true, eq-eqb, ne-eqb, not-true, not-false}
 use Rattle.word.specs.Be.{cut, val}
 use Rattle.word.specs.Codec.{isSome, zeros, okSlot, okTable}
 use Rattle.word.specs.Text.{testText}
 use Rattle.word.specs.Tests.{every}
 use Rattle.word.proofs.Be.{bytes-all, bytes-are}
 use Rattle.word.proofs.Cut.{length-cut}
-use Rattle.word.proofs.Tests.{every-false}
-use Rattle.word.proofs.Codec.{slot-end, ok-below, ok-above, okTable-more, okTable-false}
+use Rattle.word.proofs.Tests.{every-at, every-false}
+use Rattle.word.proofs.Codec.{slot-end, ok-below, okTable-more, okTable-false, okTable-rest}
 use Rattle.slots.specs.declared.OptionLoose.{OptionLoose}
 use Rattle.slots.specs.declared.OptionLoose.the-variants as optionLoose
 use Rattle.slots.specs.declared.OptionLock.{OptionLock}
@@ -31,11 +32,10 @@ use Rattle.transaction.specs.declared.Edit.{Edit}
 use Rattle.slots.specs.Values.{looseIn, looseOption, lockIn, lockOption}
 use Rattle.slots.specs.Row.{rowIn, rowOption}
 use Rattle.region.specs.Layout.{versionAt, restAt, settingAt, namesAt, linesAt, modeAt, rowsAt, packedLockAt, regionSize, restSize}
-use Rattle.region.specs.Layout.{nameBase, nameWidth, looseBase, looseWidth, packedBase, packedWidth, lockBase, lockWidth, rowBase, rowWidth, lineBase, lineWidth}
 use Rattle.region.specs.Region.{nameCount, lineCount, modeNumber, rowCount, layoutTests, layout}
 use Rattle.layout.specs.declared.Table.{Table}
 use Rattle.layout.specs.declared.Table.the-variants.{Names, Looses, Packeds, Locks, Rows, Lines}
-use Rattle.layout.specs.Tables.{widthOf, testOf, headTests, countTests, tableTests}
+use Rattle.layout.specs.Tables.{widthOf, limitOf, baseOf, testOf, tableTest, headTests, countTests, tableTests}
 
 -- ---- lists of tests
 
@@ -99,16 +99,7 @@ module _ (s : List ℕ) where
     pub table-held : (u : Table) (b : Bool) → t ≡ u → b ≡ testOf u s → b ≡ testOf t s
     table-held u b q e = e ∙ ap (λ (t : Table). testOf t s) (sym q)
 
-  -- ---- held, or zeros
-
-  module _ (test : List ℕ → Bool) (n i : ℕ) (b : Bool) where
-    pub slot-held : i < n → b ≡ test s → b ≡ okSlot test n i s
-    slot-held h e = e ∙ sym (ok-below test n i s h)
-
-    pub slot-free : n ≤ i → b ≡ zeros s → b ≡ okSlot test n i s
-    slot-free h e = e ∙ sym (ok-above test n i s h)
-
--- ---- the loop over a table's slots
+-- ---- a table
 
 pub slot-order : (a w : ℕ) → a ≤ a + w
 slot-order a w = omega arith
@@ -116,36 +107,107 @@ slot-order a w = omega arith
 lent : (a w : ℕ) → a + w - a ≡ w
 lent a w = omega arith
 
-module _ (r : List ℕ) (base w c i : ℕ) (h : i < c) (g : base + c * w ≤ length r) where
+-- a turn of the loop over the n slots in use, of c
+module _ (r : List ℕ) (base w c n i : ℕ) (h : i < n) (m : n ≤ c) (g : base + c * w ≤ length r) where
+  in-use : base + i * w + w ≤ length r
+  in-use = slot-end base w c i r (omega arith) g
+
   module _ (e : length r ≡ regionSize) where
     pub slot-offset : Fits w64 (i * w)
-    slot-offset = let f : base + i * w + w ≤ length r = slot-end base w c i r h g in record { fits = omega arith }
+    slot-offset = record { fits = omega (arith, in-use) }
 
     pub slot-from : Fits w64 (base + i * w)
-    slot-from = let f : base + i * w + w ≤ length r = slot-end base w c i r h g in record { fits = omega arith }
+    slot-from = record { fits = omega (arith, in-use) }
 
     pub slot-to : Fits w64 (base + i * w + w)
-    slot-to = let f : base + i * w + w ≤ length r = slot-end base w c i r h g in record { fits = omega arith }
+    slot-to = record { fits = omega (arith, in-use) }
+
+  pub slot-last : base + i * w + w ≤ length r
+  slot-last = in-use
 
   pub slot-wide : (t : Table) → w ≡ widthOf t → length (cut (base + i * w) (base + i * w + w - (base + i * w)) r) ≡ widthOf t
   slot-wide t e =
       ap (λ (k : ℕ). length (cut (base + i * w) k r)) (lent (base + i * w) w)
-      ∙ length-cut (base + i * w) w r (slot-end base w c i r h g)
+      ∙ length-cut (base + i * w) w r in-use
       ∙ e
 
-module _ (w : ℕ) (test : List ℕ → Bool) (i n base : ℕ) (r : List ℕ) where
-  module _ (ok : Bool) (e : ok ≡ okSlot test n i (cut (base + i * w) (base + i * w + w - (base + i * w)) r)) where
-    slot-is : okSlot test n i (cut (base + i * w) w r) ≡ ok
-    slot-is = ap (λ (k : ℕ). okSlot test n i (cut (base + i * w) k r)) (sym (lent (base + i * w) w)) ∙ sym e
+module _ (w : ℕ) (test : List ℕ → Bool) (i n base : ℕ) (r : List ℕ) (h : i < n) (ok : Bool)
+    (e : ok ≡ test (cut (base + i * w) (base + i * w + w - (base + i * w)) r)) where
+  slot-is : okSlot test n i (cut (base + i * w) w r) ≡ ok
+  slot-is =
+      ok-below test n i (cut (base + i * w) w r) h
+      ∙ ap (λ (k : ℕ). test (cut (base + i * w) k r)) (sym (lent (base + i * w) w))
+      ∙ sym e
 
-    pub table-more : okTable w test i n base r ≡ true → ok ≡ true → okTable w test (i + 1) n base r ≡ true
-    table-more h t = okTable-more w test i n base r h (slot-is ∙ t)
+  pub table-more : okTable w test i n base r ≡ true → ok ≡ true → okTable w test (i + 1) n base r ≡ true
+  table-more k t = okTable-more w test i n base r k (slot-is ∙ t)
 
-    pub table-stop : (c : ℕ) → i < c → ok ≡ false → false ≡ okTable w test c n base r
-    table-stop c h t = sym (okTable-false w test c i n base r h (slot-is ∙ t))
+  pub table-stop : (c : ℕ) → n ≤ c → ok ≡ false → false ≡ okTable w test c n base r
+  table-stop c k t = sym (okTable-false w test c i n base r (omega arith) (slot-is ∙ t))
 
-  pub table-end : (c : ℕ) → c ≤ i → i ≤ c → okTable w test i n base r ≡ true → true ≡ okTable w test c n base r
-  table-end c p q e = let f : i ≡ c = omega arith in sym (rw f at e)
+-- the run behind them, up to the table's end
+module _ (r : List ℕ) (base w c n : ℕ) (m : n ≤ c) (g : base + c * w ≤ length r) where
+  used : n * w ≤ c * w
+  used = mul-le-mul-right w m
+
+  module _ (e : length r ≡ regionSize) where
+    pub free-offset : Fits w64 (n * w)
+    free-offset = record { fits = omega (arith, used) }
+
+    pub free-from : Fits w64 (base + n * w)
+    free-from = record { fits = omega (arith, used) }
+
+  pub free-order : base + n * w ≤ base + c * w
+  free-order = omega (arith, used)
+
+module _ (r : List ℕ) (base w c : ℕ) (g : base + c * w ≤ length r) (e : length r ≡ regionSize) where
+  pub end-offset : Fits w64 (c * w)
+  end-offset = record { fits = omega arith }
+
+  pub end-at : Fits w64 (base + c * w)
+  end-at = record { fits = omega arith }
+
+pub table-rest : (w : ℕ) (test : List ℕ → Bool) (i c n base : ℕ) (r : List ℕ) (b : Bool) → n ≤ i → i ≤ n → n ≤ c
+    → okTable w test i n base r ≡ true → b ≡ zeros (cut (base + n * w) (base + c * w - (base + n * w)) r)
+    → b ≡ okTable w test c n base r
+table-rest w test i c n base r b p q m k e =
+    let f : i ≡ n = omega arith in
+    e ∙ okTable-rest w test n base r c (rw f at k) m
+
+-- ---- a table by its kind
+
+table-fits : (t : Table) → baseOf t + limitOf t * widthOf t ≤ regionSize
+table-fits Names = lit≤ tt
+table-fits Looses = lit≤ tt
+table-fits Packeds = lit≤ tt
+table-fits Locks = lit≤ tt
+table-fits Rows = lit≤ tt
+table-fits Lines = lit≤ tt
+
+table-few : (t : Table) → limitOf t ≤ 1024
+table-few Names = lit≤ tt
+table-few Looses = lit≤ tt
+table-few Packeds = lit≤ tt
+table-few Locks = lit≤ tt
+table-few Rows = lit≤ tt
+table-few Lines = lit≤ tt
+
+module _ (t : Table) (w c base : ℕ) (w= : w ≡ widthOf t) (c= : c ≡ limitOf t) (base= : base ≡ baseOf t) where
+  pub table-within : (r : List ℕ) → length r ≡ regionSize → base + c * w ≤ length r
+  table-within r e = rw (w=, c=, base=, e) (table-fits t)
+
+  pub table-below : (n : ℕ) → n ≤ limitOf t → n ≤ c
+  table-below n h = rw c= h
+
+  pub table-short : c ≤ 1024
+  table-short = rw c= (table-few t)
+
+  pub table-whole : (n : ℕ) (r : List ℕ) (b : Bool) → b ≡ okTable w (testOf t) c n base r → b ≡ tableTest t n r
+  unfolding tableTest
+  table-whole n r b e =
+      e
+      ∙ ap (λ (w : ℕ). okTable w (testOf t) c n base r) w=
+      ∙ ap₂ (λ (c base : ℕ). okTable (widthOf t) (testOf t) c n base r) c= base=
 
 -- ---- the head
 
@@ -210,53 +272,71 @@ module _ (r : List ℕ) where
 -- ---- the tables
 
 module _ (r : List ℕ) where
-  -- a table's test with the count as it was read
-  module _ (w : ℕ) (test : List ℕ → Bool) (c base : ℕ) {n k : ℕ} {ok : Bool} (e : n ≡ k) (p : ok ≡ okTable w test c n base r) where
-    table-is : okTable w test c k base r ≡ ok
-    table-is = ap (λ (n : ℕ). okTable w test c n base r) (sym e) ∙ sym p
+  -- the head has passed: no count is past its table's slots
+  module _ (e : every (headTests r) ≡ true) (n : ℕ) where
+    pub names-few : n ≡ val (cut namesAt 2 r) → n ≤ 256
+    unfolding headTests layoutTests nameCount
+    names-few p = rw p (leb-true _ _ (every-at (headTests r) 3 e))
 
-    table-fails : not ok ≡ true → okTable w test c k base r ≡ false
+    pub lines-few : n ≡ val (cut linesAt 2 r) → n ≤ 1024
+    unfolding headTests layoutTests lineCount
+    lines-few p = rw p (leb-true _ _ (every-at (headTests r) 4 e))
+
+    pub rows-few : n ≡ val (cut rowsAt 1 r) → n ≤ 160
+    unfolding headTests layoutTests rowCount
+    rows-few p = rw p (under (eqb (modeNumber r) 0) (leb-true _ _ (every-at (headTests r) 6 e)))
+      where
+        under : (t : Bool) → val (cut rowsAt 1 r) ≤ cond t 0 160 → val (cut rowsAt 1 r) ≤ 160
+        under true h = omega arith
+        under false h = h
+
+  -- a table's test with the count as it was read
+  module _ (t : Table) {n k : ℕ} {ok : Bool} (e : n ≡ k) (p : ok ≡ tableTest t n r) where
+    table-is : tableTest t k r ≡ ok
+    table-is = ap (λ (n : ℕ). tableTest t n r) (sym e) ∙ sym p
+
+    table-fails : not ok ≡ true → tableTest t k r ≡ false
     table-fails q = table-is ∙ not-true ok q
 
-    table-passes : not ok ≡ false → okTable w test c k base r ≡ true
+    table-passes : not ok ≡ false → tableTest t k r ≡ true
     table-passes q = table-is ∙ not-false ok q
 
   module _ (n : ℕ) (e : n ≡ val (cut namesAt 2 r)) (ok : Bool) where
-    pub names-fail : ok ≡ okTable nameWidth (testOf Names) 256 n nameBase r → not ok ≡ true → false ≡ every (tableTests r)
-    unfolding tableTests layoutTests nameCount
-    names-fail p q = sym (every-false (tableTests r) 0 (table-fails _ _ _ _ e p q))
+    pub names-fail : ok ≡ tableTest Names n r → not ok ≡ true → false ≡ every (tableTests r)
+    unfolding tableTest tableTests layoutTests nameCount
+    names-fail p q = sym (every-false (tableTests r) 0 (table-fails Names e p q))
 
-    pub looses-fail : ok ≡ okTable looseWidth (testOf Looses) 256 n looseBase r → not ok ≡ true → false ≡ every (tableTests r)
-    unfolding tableTests layoutTests nameCount
-    looses-fail p q = sym (every-false (tableTests r) 1 (table-fails _ _ _ _ e p q))
+    pub looses-fail : ok ≡ tableTest Looses n r → not ok ≡ true → false ≡ every (tableTests r)
+    unfolding tableTest tableTests layoutTests nameCount
+    looses-fail p q = sym (every-false (tableTests r) 1 (table-fails Looses e p q))
 
-    pub packeds-fail : ok ≡ okTable packedWidth (testOf Packeds) 256 n packedBase r → not ok ≡ true → false ≡ every (tableTests r)
-    unfolding tableTests layoutTests nameCount
-    packeds-fail p q = sym (every-false (tableTests r) 2 (table-fails _ _ _ _ e p q))
+    pub packeds-fail : ok ≡ tableTest Packeds n r → not ok ≡ true → false ≡ every (tableTests r)
+    unfolding tableTest tableTests layoutTests nameCount
+    packeds-fail p q = sym (every-false (tableTests r) 2 (table-fails Packeds e p q))
 
-    pub locks-fail : ok ≡ okTable lockWidth (testOf Locks) 256 n lockBase r → not ok ≡ true → false ≡ every (tableTests r)
-    unfolding tableTests layoutTests nameCount
-    locks-fail p q = sym (every-false (tableTests r) 3 (table-fails _ _ _ _ e p q))
+    pub locks-fail : ok ≡ tableTest Locks n r → not ok ≡ true → false ≡ every (tableTests r)
+    unfolding tableTest tableTests layoutTests nameCount
+    locks-fail p q = sym (every-false (tableTests r) 3 (table-fails Locks e p q))
 
-  pub rows-fail : (n : ℕ) (ok : Bool) → n ≡ val (cut rowsAt 1 r) → ok ≡ okTable rowWidth (testOf Rows) 160 n rowBase r
-      → not ok ≡ true → false ≡ every (tableTests r)
-  unfolding tableTests layoutTests rowCount
-  rows-fail n ok e p q = sym (every-false (tableTests r) 4 (table-fails _ _ _ _ e p q))
+  pub rows-fail : (n : ℕ) (ok : Bool) → n ≡ val (cut rowsAt 1 r) → ok ≡ tableTest Rows n r → not ok ≡ true
+      → false ≡ every (tableTests r)
+  unfolding tableTest tableTests layoutTests rowCount
+  rows-fail n ok e p q = sym (every-false (tableTests r) 4 (table-fails Rows e p q))
 
   pub tables-rest : (n m k : ℕ) (a b c d e f : Bool) → n ≡ val (cut namesAt 2 r) → m ≡ val (cut linesAt 2 r) → k ≡ val (cut rowsAt 1 r)
-      → a ≡ okTable nameWidth (testOf Names) 256 n nameBase r → not a ≡ false
-      → b ≡ okTable looseWidth (testOf Looses) 256 n looseBase r → not b ≡ false
-      → c ≡ okTable packedWidth (testOf Packeds) 256 n packedBase r → not c ≡ false
-      → d ≡ okTable lockWidth (testOf Locks) 256 n lockBase r → not d ≡ false
-      → e ≡ okTable rowWidth (testOf Rows) 160 k rowBase r → not e ≡ false
-      → f ≡ okTable lineWidth (testOf Lines) 1024 m lineBase r → f ≡ every (tableTests r)
-  unfolding tableTests layoutTests nameCount lineCount rowCount
+      → a ≡ tableTest Names n r → not a ≡ false
+      → b ≡ tableTest Looses n r → not b ≡ false
+      → c ≡ tableTest Packeds n r → not c ≡ false
+      → d ≡ tableTest Locks n r → not d ≡ false
+      → e ≡ tableTest Rows k r → not e ≡ false
+      → f ≡ tableTest Lines m r → f ≡ every (tableTests r)
+  unfolding tableTest tableTests layoutTests nameCount lineCount rowCount
   tables-rest n m k a b c d e f n= m= k= a= a1 b= b1 c= c1 d= d1 e= e1 f= =
-      sym (pass (table-passes _ _ _ _ n= a= a1)
-      (pass (table-passes _ _ _ _ n= b= b1)
-      (pass (table-passes _ _ _ _ n= c= c1)
-      (pass (table-passes _ _ _ _ n= d= d1)
-      (pass (table-passes _ _ _ _ k= e= e1) (and-true _ ∙ table-is _ _ _ _ m= f=))))))
+      sym (pass (table-passes Names n= a= a1)
+      (pass (table-passes Looses n= b= b1)
+      (pass (table-passes Packeds n= c= c1)
+      (pass (table-passes Locks n= d= d1)
+      (pass (table-passes Rows k= e= e1) (and-true _ ∙ table-is Lines m= f=))))))
 
 -- ---- the layout
 
@@ -275,6 +355,9 @@ module _ (r : List ℕ) where
 
     pub layout-head : (ok : Bool) → ok ≡ every (headTests r) → not ok ≡ true → false ≡ layout r
     layout-head ok p q = sym (layout-is ∙ ap (λ (t : Bool). t && every (tableTests r)) (sym p ∙ not-true ok q))
+
+    pub head-passed : (ok : Bool) → ok ≡ every (headTests r) → not ok ≡ false → every (headTests r) ≡ true
+    head-passed ok p q = sym p ∙ not-false ok q
 
     pub layout-tables : (ok b : Bool) → ok ≡ every (headTests r) → not ok ≡ false → b ≡ every (tableTests r) → b ≡ layout r
     layout-tables ok b p q f = f ∙ sym (layout-is ∙ ap (λ (t : Bool). t && every (tableTests r)) (sym p ∙ not-false ok q))

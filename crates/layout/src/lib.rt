@@ -1,14 +1,14 @@
 // The test of a region's layout: version, length, counts, and every slot of every table.
 ghost use mathlib.Core.Path.{_≡_};
-ghost use mathlib.Core.Bool.{cond};
+ghost use mathlib.Core.Bool.{true, cond};
 ghost use Prim.Native.Nat.{_+_, _*_, _≤_};
 ghost use lib.ListN.{length};
 ghost use lib.Dec.{eqb};
-ghost use Rattle.word.specs.Codec.{okSlot, okTable};
+ghost use Rattle.word.specs.Codec.{okTable};
 ghost use Rattle.word.specs.Tests.{every};
 ghost use Rattle.region.specs.Layout.{regionSize};
 ghost use Rattle.region.specs.Region.{layout};
-ghost use Rattle.layout.specs.Tables.{widthOf, testOf, headTests, countTests, tableTests};
+ghost use Rattle.layout.specs.Tables.{widthOf, limitOf, baseOf, testOf, tableTest, headTests, countTests, tableTests};
 use model::Line;
 use model::WriteReflog;
 use region::Layout;
@@ -27,6 +27,50 @@ pub enum Table {
     Locks,
     Rows,
     Lines,
+}
+
+impl Table {
+    // How wide a slot is.
+    fn width(self) -> usize
+        ensures { λ r. ⌜ r ≡ widthOf self ⌝ }
+    {
+        match self {
+            Table::Names => Layout::NAME_WIDTH,
+            Table::Looses => Layout::LOOSE_WIDTH,
+            Table::Packeds => Layout::PACKED_WIDTH,
+            Table::Locks => Layout::LOCK_WIDTH,
+            Table::Rows => Layout::ROW_WIDTH,
+            Table::Lines => Layout::LINE_WIDTH,
+        }
+    }
+
+    // How many slots there are.
+    fn limit(self) -> usize
+        ensures { λ r. ⌜ r ≡ limitOf self ⌝ }
+    {
+        match self {
+            Table::Names => NameNumber::LIMIT,
+            Table::Looses => NameNumber::LIMIT,
+            Table::Packeds => NameNumber::LIMIT,
+            Table::Locks => NameNumber::LIMIT,
+            Table::Rows => Edit::LIMIT,
+            Table::Lines => Line::LIMIT,
+        }
+    }
+
+    // Where the first one begins.
+    fn base(self) -> usize
+        ensures { λ r. ⌜ r ≡ baseOf self ⌝ }
+    {
+        match self {
+            Table::Names => Layout::NAMES,
+            Table::Looses => Layout::LOOSES,
+            Table::Packeds => Layout::PACKEDS,
+            Table::Locks => Layout::LOCKS,
+            Table::Rows => Layout::ROWS,
+            Table::Lines => Layout::LINES,
+        }
+    }
 }
 
 // A name's slot: its length, its bytes, and zeros.
@@ -87,38 +131,38 @@ fn held_ok(table: Table, slot: &[u8]) -> bool
     }
 }
 
-// Slot i of a table in which n are held: the others are zeros.
-fn slot_ok(table: Table, slot: &[u8], i: usize, n: usize) -> bool
-    requires { ⌜ length (now slot) ≡ widthOf table ⌝ }
-    ensures { λ r. ⌜ r ≡ okSlot (testOf table) n i (now (slot .entry)) ⌝ }
-{
-    if i < n {
-        held_ok(table, slot)
-    } else {
-        word::all_zero(slot)
-    }
-}
-
-// A table of `count` slots of `width` bytes from `base` on, in which n are held.
-fn table_ok(region: &[u8], table: Table, width: usize, count: usize, n: usize, base: usize) -> bool
+// A table of `count` slots of `width` bytes from `base` on, of which the first n are in use: each of these is tested by itself, and what
+// stands behind them is one run of zeros.
+fn slots_ok(region: &[u8], table: Table, width: usize, count: usize, n: usize, base: usize) -> bool
     requires { ⌜ width ≡ widthOf table ⌝ }
     requires { ⌜ base + count * width ≤ length (now region) ⌝ }
     requires { ⌜ length (now region) ≡ regionSize ⌝ }
+    requires { ⌜ n ≤ count ⌝ }
     requires { ⌜ count ≤ 1024 ⌝ }
     ensures { λ r. ⌜ r ≡ okTable width (testOf table) count n base (now (region .entry)) ⌝ }
 {
     let mut i: usize = 0;
-    while i < count {
+    while i < n {
         let a = base + i * width;
         let e = a + width;
-        let ok = slot_ok(table, &region[a..e], i, n);
+        let ok = held_ok(table, &region[a..e]);
         if ok {
             i += 1;
         } else {
             return false;
         }
     }
-    true
+    let free = base + n * width;
+    let end = base + count * width;
+    word::all_zero(&region[free..end])
+}
+
+fn table_ok(region: &[u8], table: Table, n: usize) -> bool
+    requires { ⌜ length (now region) ≡ regionSize ⌝ }
+    requires { ⌜ n ≤ limitOf table ⌝ }
+    ensures { λ r. ⌜ r ≡ tableTest table n (now (region .entry)) ⌝ }
+{
+    slots_ok(region, table, table.width(), table.limit(), n, table.base())
 }
 
 // Version, length of the rest, setting and counts; then the other counts.
@@ -169,71 +213,31 @@ fn counts_ok(region: &[u8]) -> bool
     word::get_at(region, Layout::PACKED_LOCK, 1) <= OptionLock::OURS
 }
 
+// The head is tested already, so no count is past its table's slots.
 fn tables_ok(region: &[u8]) -> bool
     requires { ⌜ length (now region) ≡ regionSize ⌝ }
+    requires { ⌜ every (headTests (now region)) ≡ true ⌝ }
     ensures { λ r. ⌜ r ≡ every (tableTests (now (region .entry))) ⌝ }
 {
     let names = word::get_at(region, Layout::NAME_COUNT, 2) as usize;
     let lines = word::get_at(region, Layout::LINE_COUNT, 2) as usize;
     let rows = word::get_at(region, Layout::ROW_COUNT, 1) as usize;
-    if !table_ok(
-        region,
-        Table::Names,
-        Layout::NAME_WIDTH,
-        NameNumber::LIMIT,
-        names,
-        Layout::NAMES,
-    ) {
+    if !table_ok(region, Table::Names, names) {
         return false;
     }
-    if !table_ok(
-        region,
-        Table::Looses,
-        Layout::LOOSE_WIDTH,
-        NameNumber::LIMIT,
-        names,
-        Layout::LOOSES,
-    ) {
+    if !table_ok(region, Table::Looses, names) {
         return false;
     }
-    if !table_ok(
-        region,
-        Table::Packeds,
-        Layout::PACKED_WIDTH,
-        NameNumber::LIMIT,
-        names,
-        Layout::PACKEDS,
-    ) {
+    if !table_ok(region, Table::Packeds, names) {
         return false;
     }
-    if !table_ok(
-        region,
-        Table::Locks,
-        Layout::LOCK_WIDTH,
-        NameNumber::LIMIT,
-        names,
-        Layout::LOCKS,
-    ) {
+    if !table_ok(region, Table::Locks, names) {
         return false;
     }
-    if !table_ok(
-        region,
-        Table::Rows,
-        Layout::ROW_WIDTH,
-        Edit::LIMIT,
-        rows,
-        Layout::ROWS,
-    ) {
+    if !table_ok(region, Table::Rows, rows) {
         return false;
     }
-    table_ok(
-        region,
-        Table::Lines,
-        Layout::LINE_WIDTH,
-        Line::LIMIT,
-        lines,
-        Layout::LINES,
-    )
+    table_ok(region, Table::Lines, lines)
 }
 
 // Whether a region is laid out so.

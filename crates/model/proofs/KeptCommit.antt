@@ -22,6 +22,7 @@ use Rattle.transaction.specs.declared.Change.the-variants.{Update, Delete}
 use Rattle.transaction.specs.declared.PackedRefs.{PackedRefs}
 use Rattle.transaction.specs.declared.Edit.{Edit}
 use Rattle.transaction.specs.Change.{newValue, previousValue, isDelete, isLogOnly, idOf, matched, expectedTarget}
+use Rattle.model.specs.declared.Packed.{Packed}
 use Rattle.model.specs.declared.Loose.the-variants as loose
 use Rattle.model.specs.declared.Line.{Line}
 use Rattle.model.specs.Basic.{isEmpty, select, collect}
@@ -92,17 +93,19 @@ apply-base (removeLoose n) s b f = base-loose s (n .0) loose.None b refl
 -- ---- a run of writes
 
 -- a write leaves the names as they are
-applied-count : (ps : List PackedEdit) (es : List Entry) → length (applyPacked ps es) ≡ length es
+pub applied-count : (ps : List PackedEdit) (es : List Entry) → length (applyPacked ps es) ≡ length es
 applied-count [] es = refl
 applied-count (p ∷ ps) es =
     applied-count ps (changeAt (putPacked (p .value)) (p .name .0) es)
     ∙ changed-count (putPacked (p .value)) (p .name .0) es
 
-applied-name : (ps : List PackedEdit) (es : List Entry) (n : ℕ) → getD (applyPacked ps es) n noEntry .name ≡ getD es n noEntry .name
-applied-name [] es n = refl
-applied-name (p ∷ ps) es n =
-    applied-name ps (changeAt (putPacked (p .value)) (p .name .0) es) n
-    ∙ changed-keeps (λ x. x .name) (putPacked (p .value)) (p .name .0) n es refl
+-- packed values leave what else an entry has
+pub applied-keeps : {A : Type 0} (g : Entry → A) → ((v : Packed) (e : Entry) → g (putPacked v e) ≡ g e) → (ps : List PackedEdit) (es : List Entry) (n : ℕ)
+    → g (getD (applyPacked ps es) n noEntry) ≡ g (getD es n noEntry)
+applied-keeps g h [] es n = refl
+applied-keeps g h (p ∷ ps) es n =
+    applied-keeps g h ps (changeAt (putPacked (p .value)) (p .name .0) es) n
+    ∙ changed-keeps g (putPacked (p .value)) (p .name .0) n es (h (p .value) (getD es (p .name .0) noEntry))
 
 pub apply-count : (w : Write) (s : Store) → count (apply w s) ≡ count s
 unfolding apply
@@ -117,7 +120,7 @@ unfolding apply
 apply-name (appendLine l) s n = refl
 apply-name (writeLoose m t) s n = changed-keeps (λ x. x .name) (putLoose (loose.Target t)) (m .0) n (s .entries) refl
 apply-name (removeLog m) s n = refl
-apply-name (writePacked ps) s n = applied-name ps (s .entries) n
+apply-name (writePacked ps) s n = applied-keeps (λ x. x .name) (λ v x. refl) ps (s .entries) n
 apply-name (removeLoose m) s n = changed-keeps (λ x. x .name) (putLoose loose.None) (m .0) n (s .entries) refl
 
 -- what is left of the writes after one still finds room

@@ -25,7 +25,7 @@ use Rattle.model.specs.Reply.Given.{number, bytesOf}
 use Rattle.model.specs.Calls.{step}
 use Rattle.model.specs.Load.{numberFrom, newEntry, addedAs, nameAdded, bytesGiven}
 use Rattle.model.specs.Numbers.{answer, answerOf, refusalAnswer}
-use Rattle.region.specs.Region.{view, good, nameOffset, Became}
+use Rattle.region.specs.Region.{view, good, nameOffset, Laid, Became}
 use Rattle.region.proofs.Decode.{good-parts}
 use Rattle.region.proofs.Read.{name-read}
 use Rattle.steps.specs.Steps.{foundOption}
@@ -89,17 +89,31 @@ module _ (n : ℕ) (r : List ℕ) (ok : Bool) (is : ok ≡ good r) where
   part-bad h = rw (← bad-region (nameBytes n) r ok is refl refused-1 h refl .answer)
 
   module _ (y : not ok ≡ false) (o : OptionName) (e : o ≡ nameBelow (count (view r)) n) where
-    pub part-far : o ≡ NoName → [] ≡ namePart n r
+    part-far : o ≡ NoName → [] ≡ namePart n r
     unfolding namePart step bytesGiven answerOf refusalAnswer
     part-far h = rw (replies (nameBytes n) r ok is refl y, known-far n (view r) o e h)
 
-    pub part-is : (m : NameNumber) → o ≡ Name m → (p : List ℕ) → p ≡ entryOf (view r) m .name → p ≡ namePart n r
+    part-is : (m : NameNumber) → o ≡ Name m → (p : List ℕ) → p ≡ entryOf (view r) m .name → p ≡ namePart n r
     unfolding namePart step bytesGiven answerOf
     part-is m h p q =
         let l : m .0 < count (view r) = near n r o m e h in
         let a : m ≡ record { 0 = n } = known-as n (view r) o e m h in
         rw (replies (nameBytes n) r ok is refl y, known-near n (view r) o e m h)
         (q ∙ sym (name-read r (good-laid r ok is y) (m .0) l) ∙ ap (λ (m : NameNumber). cut (nameOffset (m .0)) (length (entryOf (view r) m .name)) r) a)
+
+-- the same of a region that is known to be good
+pub good-is-laid : (r : List ℕ) → good r ≡ true → Laid r
+good-is-laid r g = good-laid r true (sym g) refl
+
+module _ (n : ℕ) (r : List ℕ) (g : good r ≡ true) (o : OptionName) (e : o ≡ nameBelow (count (view r)) n) where
+  pub part-none : o ≡ NoName → [] ≡ namePart n r
+  part-none = part-far n r true (sym g) refl o e
+
+  pub part-there : (m : NameNumber) → o ≡ Name m → (p : List ℕ) → p ≡ entryOf (view r) m .name → p ≡ namePart n r
+  part-there = part-is n r true (sym g) refl o e
+
+pub tested : (r : List ℕ) (ok : Bool) → ok ≡ good r → not ok ≡ false → good r ≡ true
+tested r ok is y = sym is ∙ not-false ok y
 
 -- a number below the count is known
 below-known : (n k : ℕ) → n < k → Name (record { 0 = n }) ≡ nameBelow k n

@@ -1,15 +1,15 @@
 -- Flags of all elements, gathered in one pass: those that are up, and what is left, decide together. Assumes nothing.
 use mathlib.Core.Path.{_≡_, refl, sym, ap, ap₂, _∙_, subst}
-use mathlib.Core.Bool.{Bool, true, false, _&&_, _||_, cond}
+use mathlib.Core.Bool.{Bool, true, false, _&&_, _||_, cond, and-true, and-false, or-false}
 use mathlib.Core.List.{List, [], _∷_}
 use Prim.Native.Nat.{ℕ, suc, _+_, _<_, _≤_}
 use native.Mathlib.Omega.{arith}
 use native.Mathlib.Numerals.{add-one}
 use lib.ListN.{length, getD, set, drop, drop-of-length-le, length-set}
-use lib.Seq.{drop-cons, getD-set-same, getD-set-other}
+use lib.Seq.{drop-cons}
 use lib.Dec.{eqb}
-use borrow.Author.Tests.{eqb-true, eqb-false}
 use Rattle.word.specs.Flags.{Flags, nowhere}
+use Rattle.word.proofs.Flags.{flag-raised}
 use Rattle.target.specs.declared.NameNumber.{NameNumber}
 use Rattle.model.specs.declared.Line.{Line}
 use Rattle.model.specs.Basic.{any}
@@ -35,10 +35,6 @@ module _ {A : Type 0} (key : A → ℕ) (ok : A → Bool) (xs : List A) where
       → ((n : ℕ) → any (passes key ok n) xs ≡ f n) → Flags f flags
   gather-end f flags i m g e l same = record { size = g .size; flag = λ n h. flag n h }
     where
-      or-false : (b : Bool) → (b || false) ≡ b
-      or-false true = refl
-      or-false false = refl
-
       flag : (n : ℕ) → n < 256 → getD flags n false ≡ f n
       flag n h =
           let b : length xs ≤ i = omega arith in
@@ -69,25 +65,10 @@ module _ {A : Type 0} (key : A → ℕ) (ok : A → Bool) (xs : List A) where
       swap false true r = refl
       swap false false r = refl
 
-      and-true : (b : Bool) → (b && true) ≡ b
-      and-true true = refl
-      and-true false = refl
-
-      and-false : (b : Bool) → (b && false) ≡ false
-      and-false true = refl
-      and-false false = refl
-
       raised : (c : Bool) (n : ℕ) → n < 256 → getD (cond c (set flags k true) flags) n false ≡ ((eqb k n && c) || getD flags n false)
       raised false n h = ap (λ (c : Bool). c || getD flags n false) (sym (and-false (eqb k n)))
-      raised true n h = go (eqb k n) refl
-        where
-          go : (t : Bool) → eqb k n ≡ t → getD (set flags k true) n false ≡ ((t && true) || getD flags n false)
-          go true q =
-              let s : k ≡ n = eqb-true k n q in
-              ap (λ (j : ℕ). getD (set flags k true) j false) (sym s) ∙ getD-set-same flags k true false (omega (arith, g .size))
-          go false q =
-              let s : k ≡ n → ⊥ = eqb-false k n q in
-              getD-set-other flags k n true false (λ e. s (sym e))
+      raised true n h =
+          flag-raised flags k n (omega (arith, g .size)) ∙ ap (λ (c : Bool). c || getD flags n false) (sym (and-true (eqb k n)))
 
       flag : (n : ℕ) → n < 256 → (getD (cond b (set flags k true) flags) n false || any (passes key ok n) (drop (i + 1) xs)) ≡ any (passes key ok n) xs
       flag n h =
@@ -110,11 +91,7 @@ every l = true
 
 lined-any : (n : ℕ) (ls : List Line) → any (passes ofLine every n) ls ≡ any (isOf (record { 0 = n })) ls
 lined-any n [] = refl
-lined-any n (l ∷ ls) = ap₂ _||_ (go (eqb (l .name .0) n)) (lined-any n ls)
-  where
-    go : (b : Bool) → (b && true) ≡ b
-    go true = refl
-    go false = refl
+lined-any n (l ∷ ls) = ap₂ _||_ (and-true (eqb (l .name .0) n)) (lined-any n ls)
 
 module _ (s : Store) (flags : List Bool) (i m : ℕ) (g : Gathering ofLine every (s .lines) i flags) (e : m ≡ length (s .lines)) where
   pub lines-more : (name : NameNumber) (k : ℕ) (flags′ : List Bool) → i < m → name ≡ getD (s .lines) i noLine .name → k ≡ name .0 → flags′ ≡ set flags k true

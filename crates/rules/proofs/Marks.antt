@@ -2,13 +2,14 @@
 use mathlib.Core.Path.{_≡_, refl, sym, ap, ap₂, _∙_}
 use mathlib.Core.Bool.{Bool, true, false, not}
 use mathlib.Core.List.{List}
-use Prim.Native.Nat.{ℕ, _+_, _-_, _≤_, _<_}
+use Prim.Native.Nat.{ℕ, _+_, _*_, _%_, _^_, _≤_, _<_}
+use native.Mathlib.Nat.{mod-lt}
 use native.Mathlib.Omega.{arith}
-use lib.ListN.{length, getD, set, length-set}
-use lib.Seq.{take-all, getD-set-same, getD-set-other}
-use lib.Dec.{eqb}
+use native.Mathlib.Numerals.{add-one}
+use lib.ListN.{length, getD, set, drop, length-set, drop-of-length-le}
+use lib.Seq.{drop-cons, getD-set-same, getD-set-other}
+use lib.Dec.{eqb, lit<}
 use borrow.Author.Tests.{eqb-true, eqb-false}
-use Rattle.word.specs.Be.{cut, val}
 use Rattle.word.specs.Tests.{sameList}
 use Rattle.word.proofs.Tests.{sameList-true, below-more, below-false}
 use Rattle.target.specs.declared.NameNumber.{NameNumber}
@@ -16,20 +17,26 @@ use Rattle.model.specs.Basic.{below}
 use Rattle.model.specs.Store.{Store, count, entryAt, entryOf}
 use Rattle.model.specs.Fine.{apartNames}
 use Rattle.region.specs.Region.{view, Laid}
-use Rattle.rules.specs.Marks.{markOf, Marked}
+use Rattle.rules.specs.Marks.{markOn, markOf, Marked}
 
 -- ---- one mark
 
-module _ (name : List ℕ) (n x : ℕ) (e : n ≡ length name) where
-  pub mark-short : n < 8 → x ≡ val name → x ≡ markOf name
-  unfolding markOf
-  mark-short l h =
-      let z : length name - 8 ≡ 0 = omega arith in
-      h ∙ ap val (sym (ap (λ (a : ℕ). cut a 8 name) z ∙ take-all 8 name (omega arith)))
+-- far from 64 bits
+pub mark-room : (a b : ℕ) → b < 256 → a % 4294967296 * 257 + b < 2 ^ 64
+mark-room a b h = let e : a % 4294967296 < 4294967296 = mod-lt a (lit< tt) in omega arith
 
-  pub mark-long : x ≡ val (cut (n - 8) 8 name) → x ≡ markOf name
-  unfolding markOf
-  mark-long h = h ∙ ap (λ (n : ℕ). val (cut (n - 8) 8 name)) e
+pub mark-start : (name : List ℕ) → markOn 0 name ≡ markOf name
+unfolding markOf
+mark-start name = refl
+
+module _ (name : List ℕ) (acc i : ℕ) (e : markOn acc (drop i name) ≡ markOf name) where
+  pub mark-more : i < length name → markOn (acc % 4294967296 * 257 + getD name i 0) (drop (i + 1) name) ≡ markOf name
+  unfolding markOn
+  mark-more h = rw add-one (sym (ap (markOn acc) (drop-cons name i 0 h)) ∙ e)
+
+  pub mark-end : length name ≤ i → acc ≡ markOf name
+  unfolding markOn
+  mark-end h = sym (ap (markOn acc) (drop-of-length-le name h)) ∙ e
 
 -- ---- all marks
 

@@ -1,14 +1,14 @@
 -- Flags of the names that rows have so far: a name that is seen twice has its flag up. Assumes nothing.
 use mathlib.Core.Path.{_≡_, refl, sym, ap, _∙_}
-use mathlib.Core.Bool.{Bool, true, false, not, false≢true, true≢false}
+use mathlib.Core.Bool.{Bool, true, false, _||_, not, false≢true, true≢false}
 use mathlib.Core.List.{List}
 use Prim.Native.Nat.{ℕ, _+_, _<_}
 use native.Mathlib.Omega.{arith}
-use lib.ListN.{length, getD, set, length-set}
-use lib.Seq.{getD-set-same, getD-set-other}
+use lib.ListN.{length, getD, set}
 use lib.Dec.{eqb}
 use borrow.Author.Tests.{not-false, eqb-true, eqb-false, eq-eqb, ne-eqb}
 use Rattle.word.specs.Flags.{Flags, nowhere}
+use Rattle.word.proofs.Flags.{raised}
 use Rattle.word.proofs.Tests.{below-more, below-false, below-true, true-below}
 use Rattle.target.specs.declared.NameNumber.{NameNumber}
 use Rattle.transaction.specs.declared.Edit.{Edit}
@@ -50,17 +50,13 @@ module _ (rows : List Edit) (i n : ℕ) where
       go false true p q = absurd (true≢false (sym (true-below i (clear rows n) (λ j l. below-true (i + 1) (clear rows n) q j (omega arith))) ∙ p))
       go false false p q = refl
 
-seen-more : (rows : List Edit) (i n : ℕ) (flags : List Bool) → Flags (seen rows i) flags → n ≡ nameIn (rowAt rows i) .0 → n < length flags
-    → Flags (seen rows (i + 1)) (set flags n true)
-seen-more rows i n flags f e h = record { size = length-set flags n true ∙ f .size; flag = λ m l. flag m l (eqb m n) refl }
+seen-more : (rows : List Edit) (i n : ℕ) (flags flags′ : List Bool) → Flags (seen rows i) flags → n ≡ nameIn (rowAt rows i) .0
+    → flags′ ≡ set flags n true → Flags (seen rows (i + 1)) flags′
+seen-more rows i n flags flags′ f e h = raised (seen rows i) (seen rows (i + 1)) flags flags′ n f h (λ m. go m (eqb n m) refl)
   where
-    flag : (m : ℕ) → m < 256 → (b : Bool) → eqb m n ≡ b → getD (set flags n true) m false ≡ seen rows (i + 1) m
-    flag m l true q =
-        let s : m ≡ n = eqb-true m n q in
-        ap (λ (m : ℕ). getD (set flags n true) m false) s ∙ getD-set-same flags n true false h ∙ seen-own rows i m (s ∙ e)
-    flag m l false q =
-        let s : m ≡ n → ⊥ = eqb-false m n q in
-        getD-set-other flags n m true false s ∙ f .flag m l ∙ seen-other rows i m (λ p. s (p ∙ sym e))
+    go : (m : ℕ) (b : Bool) → eqb n m ≡ b → (b || seen rows i m) ≡ seen rows (i + 1) m
+    go m true q = seen-own rows i m (sym (eqb-true n m q) ∙ e)
+    go m false q = seen-other rows i m (λ p. eqb-false n m q (e ∙ sym p))
 
 module _ (r : List ℕ) (i n : ℕ) (name : NameNumber) (a : Bool) (flags : List Bool) (l : Laid r) (ea : a ≡ fineRow (count (view r)) (rowsIn (view r .prepared)) i) (y : not a ≡ false)
     (en : name ≡ nameIn (rowAt (rowsIn (view r .prepared)) i)) (ek : n ≡ name .0) (f : Flags (seen (rowsIn (view r .prepared)) i) flags) where
@@ -92,7 +88,7 @@ module _ (r : List ℕ) (i n : ℕ) (name : NameNumber) (a : Bool) (flags : List
   pub seen-once : (flags′ : List Bool) → getD flags n false ≡ false → flags′ ≡ set flags n true → Stood (view r) i true flags′
   seen-once flags′ t h = record {
     test = row-other (view r) i a ea y true (sym (apart-is ∙ ap not t));
-    more = λ e. rw h (seen-more (rowsIn (view r .prepared)) i n flags f own seen-room);
+    more = λ e. seen-more (rowsIn (view r .prepared)) i n flags flags′ f own h;
   }
 
 pub seen-not : (r : List ℕ) (i : ℕ) (a : Bool) (flags : List Bool) → a ≡ fineRow (count (view r)) (rowsIn (view r .prepared)) i → not a ≡ true

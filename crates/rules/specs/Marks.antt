@@ -1,11 +1,10 @@
 -- What the test gathers on its way, to tell things apart: marks of names, and which names the rows have so far.
 use mathlib.Core.Path.{_≡_}
 use mathlib.Core.Bool.{Bool, true, not}
-use mathlib.Core.List.{List}
-use Prim.Native.Nat.{ℕ, _+_, _-_, _<_}
+use mathlib.Core.List.{List, [], _∷_}
+use Prim.Native.Nat.{ℕ, _+_, _*_, _%_, _<_}
 use lib.ListN.{length, getD}
 use lib.Dec.{eqb}
-use Rattle.word.specs.Be.{cut, val}
 use Rattle.word.specs.Flags.{Flags}
 use Rattle.transaction.specs.declared.Edit.{Edit}
 use Rattle.model.specs.Basic.{below}
@@ -13,9 +12,14 @@ use Rattle.model.specs.Store.{Store, count, entryAt, rowsIn}
 use Rattle.model.specs.Rows.{nameIn, rowAt}
 use Rattle.rules.specs.Tests.{rowTest}
 
--- names that are the same have the same mark: the number that the last bytes make, eight at most
+-- Names that are the same have the same mark, and that is all that is asked of it. Every byte enters, and 32 bits stay of what came
+-- before it.
+unfoldable pub markOn : ℕ → List ℕ → ℕ
+markOn acc [] = acc
+markOn acc (b ∷ bs) = markOn (acc % 4294967296 * 257 + b) bs
+
 unfoldable pub markOf : List ℕ → ℕ
-markOf name = val (cut (length name - 8) 8 name)
+markOf name = markOn 0 name
 
 -- the mark of each name, by its number
 pub record Marked (s : Store) (marks : List ℕ) : Type 0 where

@@ -7,7 +7,7 @@ ghost use Rattle.word.specs.Flags.{Flags, nowhere};
 ghost use Rattle.model.specs.Basic.{below};
 ghost use Rattle.model.specs.Store.{count, entryOf, rowsIn};
 ghost use Rattle.model.specs.Rows.{ancestors};
-ghost use Rattle.model.specs.Fine.{fineTarget, fineOption, fineLoose, finePacked, fineEntry, fineLine, fineParent, fineRow, apartNames, apartRows};
+ghost use Rattle.model.specs.Fine.{fineTarget, fineOption, fineLoose, finePacked, fineEntry, fineLine, fineParent, fineRow, apartNames};
 ghost use Rattle.model.specs.Fine.{Upward, fineNames, fineLines, fineRows};
 ghost use Rattle.region.specs.Region.{view, Laid};
 ghost use Rattle.rules.specs.Tests.{nameTest};
@@ -84,15 +84,17 @@ fn entry_ok(region: &[u8], n: NameNumber) -> bool
 
 // ---- names are apart: by their marks first, since two names that have other marks are no pair
 
-// The number that the last bytes of a name make, eight at most. Names often begin alike and end apart.
+// A number that every byte of a name enters, so that names which begin alike, or end alike, still have other marks as a rule.
 fn mark(name: &[u8]) -> u64
     ensures { λ r. ⌜ r ≡ markOf (now (name .entry)) ⌝ }
 {
-    let n = name.len();
-    if n < 8 {
-        return word::get(name);
+    let mut acc: u64 = 0;
+    let mut i: usize = 0;
+    while i < name.len() {
+        acc = acc % 4294967296 * 257 + (name[i] as u64);
+        i += 1;
     }
-    word::get_at(name, n - 8, 8)
+    acc
 }
 
 fn mark_names(region: &[u8], marks: &mut [u64])

@@ -7,17 +7,19 @@ ghost use mathlib.Core.List.{[], _∷_, map};
 ghost use Prim.Native.Nat.{_+_, _-_, _<_, _≤_};
 ghost use lib.ListN.{length, drop, replicate};
 ghost use Rattle.word.specs.Codec.{isSome};
+ghost use Rattle.word.specs.Flags.{Flags, nowhere};
 ghost use Rattle.target.specs.Target.{sameName};
 ghost use Rattle.transaction.specs.declared.RefEdit.{RefEdit as AnEdit};
 ghost use Rattle.transaction.specs.Change.{rowOf};
 ghost use Rattle.model.specs.Basic.{any};
 ghost use Rattle.model.specs.EditList.{editsOf};
 ghost use Rattle.model.specs.Store.{entryOf, nameOf, rowsIn, isPrepared, withRows};
-ghost use Rattle.model.specs.Rows.{nameIn, rowAt};
+ghost use Rattle.model.specs.Rows.{nameIn};
 ghost use Rattle.model.specs.Split.{linkIn, parentChange, settledWith, settled, childOf, splits, lesser, oneNameOneEdit};
 ghost use Rattle.region.specs.Region.{view, Laid, Became};
 ghost use Rattle.writers.specs.Taken.{Taken, outcomeBy};
 ghost use Rattle.edits.specs.Edits.{editsIn, Registered};
+ghost use Rattle.splits.specs.Twice.{behind, Repeats, leastFrom};
 ghost use Rattle.splits.specs.Round.{hide, hiddenRows, followed, stepped, steps, leadsOn};
 use model::Judged;
 use model::Loose;
@@ -296,20 +298,57 @@ fn stands_again(region: &[u8], name: NameNumber, i: usize) -> bool
     false
 }
 
-// 6, with the least name in byte order that stands twice. Rows are looked at from the last on, as the least is defined.
-pub fn assure_one_name_has_one_edit(region: &[u8]) -> Judged
+// The same by the flags of the rows from place i on; a number that has no flag is looked for among them.
+fn stands_behind(region: &[u8], flags: &[bool], name: NameNumber, i: usize) -> bool
     requires { ⌜ Laid (now region) ⌝ }
-    ensures { λ r. ⌜ outcomeBy r tt ≡ oneNameOneEdit (view (now (region .entry))) (rowsIn (view (now (region .entry)) .prepared)) ⌝ }
+    requires { ⌜ Flags (behind (rowsIn (view (now region) .prepared)) i) (now flags) ⌝ }
+    ensures { λ r. ⌜ r ≡ any (sameName name) (map nameIn (drop i (rowsIn (view (now (region .entry)) .prepared)))) ⌝ }
+{
+    let n = name.place();
+    if n < flags.len() {
+        return flags[n];
+    }
+    stands_again(region, name, i)
+}
+
+// Whether the name of row i stands again behind it. Its own flag goes up.
+fn repeats(region: &[u8], flags: &mut [bool], i: usize) -> bool
+    requires { ⌜ Laid (now region) ⌝ }
+    requires { ⌜ i < length (rowsIn (view (now region) .prepared)) ⌝ }
+    requires { ⌜ Flags (behind (rowsIn (view (now region) .prepared)) (i + 1)) (now flags) ⌝ }
+    ensures { λ r. ⌜ Repeats (rowsIn (view (now (region .entry)) .prepared)) i r (now (flags .exit)) ⌝ }
+{
+    let name = region::row_name(region, i);
+    let again = stands_behind(region, flags, name, i + 1);
+    word::raise(flags, name.place());
+    again
+}
+
+// The least name in byte order that stands twice. Rows are looked at from the last on, as the least is defined.
+fn least_repeated(region: &[u8], flags: &mut [bool]) -> OptionName
+    requires { ⌜ Laid (now region) ⌝ }
+    requires { ⌜ Flags nowhere (now flags) ⌝ }
+    ensures { λ r. ⌜ r ≡ leastFrom (view (now (region .entry))) (rowsIn (view (now (region .entry)) .prepared)) 0 ⌝ }
 {
     let mut least = OptionName::NoName;
     let mut i = region::count_rows(region);
     while 0 < i {
         i -= 1;
-        let name = region::row_name(region, i);
-        if stands_again(region, name, i + 1) {
-            least = lesser_of(region, name, least);
+        let again = repeats(region, flags, i);
+        if again {
+            least = lesser_of(region, region::row_name(region, i), least);
         }
     }
+    least
+}
+
+// 6, with that name.
+pub fn assure_one_name_has_one_edit(region: &[u8]) -> Judged
+    requires { ⌜ Laid (now region) ⌝ }
+    ensures { λ r. ⌜ outcomeBy r tt ≡ oneNameOneEdit (view (now (region .entry))) (rowsIn (view (now (region .entry)) .prepared)) ⌝ }
+{
+    let mut flags = [false; NameNumber::LIMIT];
+    let least = least_repeated(region, &mut flags);
     let OptionName::Name(name) = least else {
         return Judged::Passed;
     };

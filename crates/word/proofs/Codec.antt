@@ -12,7 +12,7 @@ use Rattle.word.specs.Table.{table, tabulate}
 use Rattle.word.specs.Codec.{Codec, isSome, slot, okTable, elements}
 use Rattle.word.proofs.Table.{length-tabulate, getD-tabulate, tabulate-getD}
 pub use Rattle.word.proofs.Slots.{slot-room, slot-end, slot-in, zeros-replicate, zeros-true, ok-below, ok-above}
-pub use Rattle.word.proofs.Slots.{okTable-none, okTable-more, okTable-false, true-okTable, okTable-held, okTable-free}
+pub use Rattle.word.proofs.Slots.{okTable-none, okTable-more, okTable-false, okTable-rest, true-okTable, okTable-held, okTable-free}
 pub use Rattle.word.proofs.Slots.{slots-table, table-slot, table-free, slot-form, slot-fits}
 use Rattle.word.proofs.Column.{column-back, column-forth, column-part}
 

@@ -1,11 +1,12 @@
 -- The slots of a table: where they lie, what their test says, and what stands in them. Assumes nothing.
 use mathlib.Core.Path.{_≡_, refl, sym, ap, ap₂, _∙_}
-use mathlib.Core.List.{List, [], _∷_}
-use mathlib.Core.Bool.{Bool, true, false, cond}
-use Prim.Native.Nat.{ℕ, zero, suc, _+_, _*_, _<_, _≤_}
-use native.Mathlib.Nat.{suc-mul, mul-le-mul-right}
+use mathlib.Core.List.{List, [], _∷_, _++_}
+use mathlib.Core.Bool.{Bool, true, false, _&&_, cond, and-true, and-assoc}
+use Prim.Native.Nat.{ℕ, zero, suc, _+_, _-_, _*_, _<_, _≤_}
+use native.Mathlib.Nat.{add-zero, add-suc, zero-mul, suc-mul, add-mul, mul-le-mul-right}
 use native.Mathlib.Omega.{arith}
-use lib.ListN.{length, getD, replicate}
+use lib.ListN.{length, take, drop, getD, replicate}
+use lib.Seq.{take-add, drop-drop}
 use lib.Dec.{eqb, ltb}
 use borrow.Author.Tests.{eqb-true, lt-ltb, le-ltb, ltb-true, ltb-false}
 use Rattle.word.specs.Be.{Bytes, cut}
@@ -46,6 +47,11 @@ zeros-true (x ∷ xs) e =
     let b : (eqb x 0 ≡ true) × (zeros xs ≡ true) = both-true (eqb x 0) (zeros xs) e in
     ap₂ (λ (n : ℕ) (l : List ℕ). n ∷ l) (eqb-true x 0 (b .0)) (zeros-true xs (b .1))
 
+pub zeros-append : (xs ys : List ℕ) → zeros (xs ++ ys) ≡ (zeros xs && zeros ys)
+unfolding zeros
+zeros-append [] ys = refl
+zeros-append (x ∷ xs) ys = ap (λ (t : Bool). eqb x 0 && t) (zeros-append xs ys) ∙ sym (and-assoc (eqb x 0) (zeros xs) (zeros ys))
+
 -- ---- the test of a slot
 
 pub ok-below : (test : List ℕ → Bool) (n i : ℕ) (s : List ℕ) → i < n → okSlot test n i s ≡ test s
@@ -84,6 +90,47 @@ true-okTable w test c n base r held free = true-below c (λ i. okSlot test n i (
     go i h false p =
         let l : n ≤ i = ltb-false i n p in
         ok-above test n i (slot base w i r) l ∙ ap zeros (free i h l) ∙ zeros-replicate w
+
+-- two runs of zeros that follow one another
+zeros-cut : (a k w : ℕ) (r : List ℕ) → zeros (cut a k r) && zeros (cut (a + k) w r) ≡ zeros (cut a (k + w) r)
+zeros-cut a k w r =
+    sym (ap zeros (take-add k w (drop a r) ∙ ap (λ (l : List ℕ). cut a k r ++ take w l) (drop-drop k a r))
+    ∙ zeros-append (cut a k r) (cut (a + k) w r))
+
+-- the first n slots, and behind them m slots that are one run of zeros
+module _ (w : ℕ) (test : List ℕ → Bool) (n base : ℕ) (r : List ℕ) where
+  okTable-run : (m : ℕ) → okTable w test (n + m) n base r ≡ (okTable w test n n base r && zeros (cut (base + n * w) (m * w) r))
+  unfolding okTable below zeros
+  okTable-run zero =
+      ap (λ (c : ℕ). okTable w test c n base r) (add-zero n)
+      ∙ sym (ap (λ (k : ℕ). okTable w test n n base r && zeros (cut (base + n * w) k r)) (zero-mul w)
+      ∙ and-true (okTable w test n n base r))
+  okTable-run (suc m) =
+      ap (λ (c : ℕ). okTable w test c n base r) (add-suc n m)
+      ∙ ap₂ (λ (a b : Bool). a && b) (okTable-run m) last
+      ∙ and-assoc (okTable w test n n base r) (zeros (cut (base + n * w) (m * w) r)) (zeros (cut (base + n * w + m * w) w r))
+      ∙ ap (λ (b : Bool). okTable w test n n base r && b) joined
+    where
+      last : okSlot test n (n + m) (slot base w (n + m) r) ≡ zeros (cut (base + n * w + m * w) w r)
+      last =
+          let e : base + (n + m) * w ≡ base + n * w + m * w = omega (arith, add-mul n m w) in
+          ok-above test n (n + m) (slot base w (n + m) r) (omega arith) ∙ ap (λ (a : ℕ). zeros (cut a w r)) e
+
+      joined : zeros (cut (base + n * w) (m * w) r) && zeros (cut (base + n * w + m * w) w r) ≡ zeros (cut (base + n * w) (suc m * w) r)
+      joined =
+          zeros-cut (base + n * w) (m * w) w r
+          ∙ ap (λ (k : ℕ). zeros (cut (base + n * w) k r)) (sym (suc-mul m w))
+
+  -- where the slots in use pass, one test is left
+  pub okTable-rest : (c : ℕ) → okTable w test n n base r ≡ true → n ≤ c
+      → zeros (cut (base + n * w) (base + c * w - (base + n * w)) r) ≡ okTable w test c n base r
+  okTable-rest c e h =
+      let f : n + (c - n) ≡ c = omega arith in
+      let g : base + c * w - (base + n * w) ≡ (c - n) * w = omega (arith, add-mul n (c - n) w, ap (λ (k : ℕ). k * w) f) in
+      ap (λ (k : ℕ). zeros (cut (base + n * w) k r)) g
+      ∙ sym (ap (λ (k : ℕ). okTable w test k n base r) (sym f)
+      ∙ okTable-run (c - n)
+      ∙ ap (λ (t : Bool). t && zeros (cut (base + n * w) ((c - n) * w) r)) e)
 
 module _ (w : ℕ) (test : List ℕ → Bool) (c n base : ℕ) (r : List ℕ)
     (ok : okTable w test c n base r ≡ true) (i : ℕ) (h : i < c) where

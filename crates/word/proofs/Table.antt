@@ -1,12 +1,12 @@
 -- Laws of tables: slots read, slots written, and a list that is a table by its slots. Assumes nothing.
 use mathlib.Core.Path.{_≡_, refl, sym, ap, ap₂, _∙_}
-use mathlib.Core.List.{List, [], _∷_, _++_, append-nil}
+use mathlib.Core.List.{List, [], _∷_, _++_, append-nil, append-assoc}
 use Prim.Native.Nat.{ℕ, zero, suc, _+_, _-_, _*_, _<_, _≤_}
 use native.Mathlib.Nat.{not-suc-le-zero, le-of-suc-le-suc, suc-mul, zero-mul}
 use native.Mathlib.Omega.{arith}
 use lib.ListN.{length, take, drop, getD, set, replicate}
 use lib.ListN.{length-append, length-drop, length-replicate, take-append-drop, drop-of-length-le, replicate-append-replicate}
-use lib.Seq.{set-out, take-all, drop-drop}
+use lib.Seq.{set-out, take-all, drop-drop, drop-append-add}
 use Rattle.word.specs.Be.{Bytes, cut}
 use Rattle.word.specs.Be.Bytes.{none}
 use Rattle.word.specs.Cut.{put}
@@ -161,28 +161,39 @@ module _ {A : Type 0} (w : ℕ) (enc : A → List ℕ) (wide : (x : A) → lengt
       put-next w (enc y) (table c enc w (xs ++ (x ∷ []))) (wide y) (length xs) (replicate w 0)
       ∙ ap (λ (l : List ℕ). enc y ++ l) (clear-table c xs x (le-of-suc-le-suc h))
 
-  -- the slots from the j-th on cleared are the first j elements
-  pub keep-table : (c j : ℕ) (xs : List A) → j ≤ c → j ≤ length xs
-      → put (j * w) ((c - j) * w) (table c enc w xs) (replicate ((c - j) * w) 0) ≡ table c enc w (take j xs)
+  -- every element's slot cleared leaves none
+  clear-all : (c : ℕ) (xs : List A) → length xs ≤ c
+      → put (0 * w) (length xs * w) (table c enc w xs) (replicate (length xs * w) 0) ≡ table c enc w []
+  unfolding table
+  clear-all c [] h = rw zero-mul
+  clear-all zero (x ∷ xs) h = absurd (not-suc-le-zero h)
+  clear-all (suc c) (x ∷ xs) h =
+      let e : suc (length xs) * w ≡ length (enc x) + length xs * w = let n : length (enc x) ≡ w = wide x in rw suc-mul (omega arith) in
+      let f : suc (length xs) * w ≡ w + length xs * w = rw suc-mul (omega arith) in
+      ap (λ (k : ℕ). put k (suc (length xs) * w) (enc x ++ table c enc w xs) (replicate (suc (length xs) * w) 0)) (zero-mul w)
+      ∙ ap₂ _++_ (ap (λ (k : ℕ). replicate k 0) f ∙ sym (replicate-append-replicate w (length xs * w) 0))
+      (ap (λ (k : ℕ). drop k (enc x ++ table c enc w xs)) e ∙ drop-append-add (enc x) (table c enc w xs) (length xs * w))
+      ∙ append-assoc (replicate w 0) (replicate (length xs * w) 0) (drop (length xs * w) (table c enc w xs))
+      ∙ ap (λ (l : List ℕ). replicate w 0 ++ l)
+      (ap (λ (k : ℕ). put k (length xs * w) (table c enc w xs) (replicate (length xs * w) 0)) (sym (zero-mul w)) ∙ clear-all c xs (le-of-suc-le-suc h))
+
+  -- the elements' slots from the j-th on cleared are the first j elements
+  pub keep-table : (c j : ℕ) (xs : List A) → j ≤ length xs → length xs ≤ c
+      → put (j * w) ((length xs - j) * w) (table c enc w xs) (replicate ((length xs - j) * w) 0) ≡ table c enc w (take j xs)
   unfolding table
   keep-table c zero xs h g =
-      let e : length (table c enc w xs) ≤ c * w = let n : length (table c enc w xs) ≡ c * w = length-table c xs in omega arith in
-      let m : c - 0 ≡ c = omega arith in
-      ap (λ (d : ℕ). put (0 * w) (d * w) (table c enc w xs) (replicate (d * w) 0)) m
-      ∙ ap (λ (k : ℕ). put k (c * w) (table c enc w xs) (replicate (c * w) 0)) (zero-mul w)
-      ∙ ap (λ (l : List ℕ). replicate (c * w) 0 ++ l) (drop-of-length-le (table c enc w xs) e)
-      ∙ append-nil (replicate (c * w) 0)
-      ∙ sym (drop-all c enc w)
-  keep-table zero (suc j) xs h g = absurd (not-suc-le-zero h)
-  keep-table (suc c) (suc j) [] h g = absurd (not-suc-le-zero g)
+      let m : length xs - 0 ≡ length xs = omega arith in
+      ap (λ (d : ℕ). put (0 * w) (d * w) (table c enc w xs) (replicate (d * w) 0)) m ∙ clear-all c xs g
+  keep-table c (suc j) [] h g = absurd (not-suc-le-zero h)
+  keep-table zero (suc j) (x ∷ xs) h g = absurd (not-suc-le-zero g)
   keep-table (suc c) (suc j) (x ∷ xs) h g =
       let e : suc j * w ≡ length (enc x) + j * w = let n : length (enc x) ≡ w = wide x in rw suc-mul (omega arith) in
-      let z : List ℕ = replicate ((c - j) * w) 0 in
-      let m : suc c - suc j ≡ c - j = omega arith in
+      let d : ℕ = (length xs - j) * w in
+      let m : suc (length xs) - suc j ≡ length xs - j = omega arith in
       ap (λ (d : ℕ). put (suc j * w) (d * w) (enc x ++ table c enc w xs) (replicate (d * w) 0)) m
-      ∙ ap (λ (k : ℕ). put k ((c - j) * w) (enc x ++ table c enc w xs) z) e
-      ∙ put-right (j * w) ((c - j) * w) (enc x) (table c enc w xs) z
-      ∙ ap (λ (l : List ℕ). enc x ++ l) (keep-table c j xs (omega arith) (omega arith))
+      ∙ ap (λ (k : ℕ). put k d (enc x ++ table c enc w xs) (replicate d 0)) e
+      ∙ put-right (j * w) d (enc x) (table c enc w xs) (replicate d 0)
+      ∙ ap (λ (l : List ℕ). enc x ++ l) (keep-table c j xs (le-of-suc-le-suc h) (le-of-suc-le-suc g))
 
 -- a list whose slots are the forms, and then zeros, is the table
 pub table-ext : {A : Type 0} (w : ℕ) (enc : A → List ℕ) (c : ℕ) (xs : List A) (d : A) (r : List ℕ) → length r ≡ c * w

@@ -1,9 +1,10 @@
 // Bytes: big-endian numbers of one to eight of them, and what every other layer does with a part of a slice. One reader and one
 // writer serve every width: the width is the length of the part that is lent.
 ghost use mathlib.Core.Path.{_≡_};
-ghost use mathlib.Core.Bool.{true};
+ghost use mathlib.Core.Bool.{true, false, _&&_};
 ghost use Prim.Native.Nat.{_+_, _≤_};
-ghost use lib.ListN.{length, replicate, set};
+ghost use lib.ListN.{length, getD, replicate, set};
+ghost use lib.Dec.{eqb};
 ghost use Rattle.word.specs.Be.{cut, val, be};
 ghost use Rattle.word.specs.Cut.{put};
 ghost use Rattle.word.specs.Tests.{sameList};
@@ -65,18 +66,24 @@ pub fn put_at(s: &mut [u8], at: usize, width: usize, x: u64)
 
 // ---- parts
 
-// Every byte is 0.
+// The greater of the two: 0 exactly where both are.
+fn greater_of(a: u8, b: u8) -> u8
+    ensures { λ r. ⌜ eqb r 0 ≡ (eqb a 0 && eqb b 0) ⌝ }
+{
+    if a < b { b } else { a }
+}
+
+// Every byte is 0. The greatest is looked for, with no way out before the end, so that many bytes can be looked at in one step.
 pub fn all_zero(s: &[u8]) -> bool
     ensures { λ r. ⌜ r ≡ zeros (now (s .entry)) ⌝ }
 {
+    let mut most: u8 = 0;
     let mut i = 0;
     while i < s.len() {
-        if s[i] != 0 {
-            return false;
-        }
+        most = greater_of(most, s[i]);
         i += 1;
     }
-    true
+    most == 0
 }
 
 // Every byte becomes 0.
@@ -128,4 +135,14 @@ pub fn raise(flags: &mut [bool], k: usize)
     if k < flags.len() {
         flags[k] = true;
     }
+}
+
+// Whether the flag of a number is up. A number that has no flag has none that is.
+pub fn is_raised(flags: &[bool], k: usize) -> bool
+    ensures { λ r. ⌜ r ≡ getD (now (flags .entry)) k false ⌝ }
+{
+    if k < flags.len() {
+        return flags[k];
+    }
+    false
 }

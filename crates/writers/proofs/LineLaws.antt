@@ -6,7 +6,7 @@ use Prim.Native.Nat.{ℕ, zero, suc, _+_, _-_, _*_, _≤_, _<_}
 use native.Mathlib.Omega.{arith}
 use native.Mathlib.Numerals.{add-one}
 use native.Mathlib.Nat.{le-trans, le-of-eq}
-use lib.ListN.{length, getD, set, take, drop, replicate, length-set, length-append, length-replicate, drop-of-length-le}
+use lib.ListN.{length, getD, set, take, drop, replicate, length-set, length-append, drop-of-length-le}
 use lib.Seq.{drop-cons, take-suc-set, getD-take, length-take-le}
 use Rattle.word.specs.Be.{be, cut}
 use Rattle.word.specs.Cut.{put}
@@ -18,7 +18,7 @@ use Rattle.model.specs.declared.Line.{Line}
 use Rattle.model.specs.Basic.{select}
 use Rattle.model.specs.Store.{Store, noLine, isOf, withLines}
 use Rattle.slots.specs.Values.{lineForm, FitsLine}
-use Rattle.region.specs.Region.{image, view, Laid, Became}
+use Rattle.region.specs.Region.{view, Laid, Became}
 use Rattle.region.proofs.Fits.{FitsStore}
 use Rattle.region.proofs.Decode.{laid-image, became}
 use Rattle.writers.specs.Moved.{moved, placed}
@@ -42,23 +42,24 @@ module _ (r b : List ℕ) (l : Laid r) where
       ∙ write-line s i line h (l .lines))
       (fits-lines s (set (s .lines) i line) f (le-trans (le-of-eq (length-set (s .lines) i line)) (l .lines)) (each-set FitsLine (s .lines) noLine i line (f .line) g))
 
-  pub keep-is : (j : ℕ) (r′ : List ℕ) → j ≤ length (view r .lines) → b ≡ replicate (length (cut (27021 + j * 22) (49549 - (27021 + j * 22)) r)) 0
-      → r′ ≡ put 8 2 (put (27021 + j * 22) (49549 - (27021 + j * 22)) r b) (be 2 j)
+  pub keep-is : (j n : ℕ) (r′ : List ℕ) → j ≤ length (view r .lines) → n ≡ length (view r .lines)
+      → b ≡ replicate (length (cut (27021 + j * 22) (27021 + n * 22 - (27021 + j * 22)) r)) 0
+      → r′ ≡ put 8 2 (put (27021 + j * 22) (27021 + n * 22 - (27021 + j * 22)) r b) (be 2 j)
       → Became r′ (withLines (view r) (take j (view r .lines)))
-  keep-is j r′ h eb er =
+  keep-is j n r′ h en eb er =
       let s : Store = view r in
       let f : FitsStore s = laid-image r l .1 in
       let few : length (s .lines) ≤ 1024 = l .lines in
       let size : length r ≡ 49549 = l .size in
-      let n : length (cut (27021 + j * 22) (49549 - (27021 + j * 22)) r) ≡ 49549 - (27021 + j * 22) =
-      length-cut (27021 + j * 22) (49549 - (27021 + j * 22)) r (omega arith) in
-      let k : ℕ = 49549 - (27021 + j * 22) in
+      let k : ℕ = 27021 + n * 22 - (27021 + j * 22) in
+      let long : length (cut (27021 + j * 22) (27021 + n * 22 - (27021 + j * 22)) r) ≡ 27021 + n * 22 - (27021 + j * 22) =
+      length-cut (27021 + j * 22) (27021 + n * 22 - (27021 + j * 22)) r (omega arith) in
       let m : length (take j (s .lines)) ≡ j = length-take-le j (s .lines) h in
       became _ _
       (er
-      ∙ ap (λ (b : List ℕ). put 8 2 (put (27021 + j * 22) (49549 - (27021 + j * 22)) r b) (be 2 j)) (eb ∙ ap (λ (k : ℕ). replicate k 0) n)
-      ∙ ap (λ (r : List ℕ). put 8 2 (put (27021 + j * 22) (49549 - (27021 + j * 22)) r (replicate (49549 - (27021 + j * 22)) 0)) (be 2 j)) (laid-image r l .0)
-      ∙ write-keep s j (49549 - (27021 + j * 22)) h few (omega arith))
+      ∙ ap (λ (b : List ℕ). put 8 2 (put (27021 + j * 22) k r b) (be 2 j)) (eb ∙ ap (λ (k : ℕ). replicate k 0) long)
+      ∙ ap (λ (r : List ℕ). put 8 2 (put (27021 + j * 22) k r (replicate k 0)) (be 2 j)) (laid-image r l .0)
+      ∙ write-keep s j k h few (omega arith))
       (fits-lines s (take j (s .lines)) f (omega arith)
       (λ i g. subst FitsLine (sym (getD-take j (s .lines) i noLine (le-trans g (le-of-eq m)))) (f .line i (omega arith))))
 

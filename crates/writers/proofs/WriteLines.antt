@@ -53,17 +53,18 @@ write-line s i line h k =
     ∙ ap₂ (λ (n : ℕ) (t : List ℕ). flat (framed s n t)) (sym (length-set (s .lines) i line)) (put-table 22 lineForm wide-line 1024 i (s .lines) line l h)
     ∙ ap flat (framed-is s (set (s .lines) i line))
 
--- the tail zeroed, and the new count
-pub write-keep : (s : Store) (j k : ℕ) → j ≤ length (s .lines) → length (s .lines) ≤ 1024 → k ≡ (1024 - j) * 22
+-- the other lines zeroed, and the new count
+pub write-keep : (s : Store) (j k : ℕ) → j ≤ length (s .lines) → length (s .lines) ≤ 1024 → k ≡ (length (s .lines) - j) * 22
     → put 8 2 (put (27021 + j * 22) k (image s) (replicate k 0)) (be 2 j) ≡ image (withLines s (take j (s .lines)))
 unfolding image lined
 write-keep s j k h g e =
-    let room : j * 22 + (1024 - j) * 22 ≤ 22528 = omega arith in
+    let d : ℕ = (length (s .lines) - j) * 22 in
+    let room : j * 22 + (length (s .lines) - j) * 22 ≤ 22528 = omega arith in
     let n : length (take j (s .lines)) ≡ j = length-take-le j (s .lines) h in
     ap (λ (k : ℕ). put 8 2 (put (27021 + j * 22) k (image s) (replicate k 0)) (be 2 j)) e
     ∙ ap (λ (r : List ℕ). put 8 2 r (be 2 j))
-    (in-lines s (j * 22) ((1024 - j) * 22) (replicate ((1024 - j) * 22) 0) room
-    ∙ ap (λ (t : List ℕ). flat (framed s (length (s .lines)) t)) (keep-table 22 lineForm wide-line 1024 j (s .lines) (omega arith) h))
+    (in-lines s (j * 22) d (replicate d 0) room
+    ∙ ap (λ (t : List ℕ). flat (framed s (length (s .lines)) t)) (keep-table 22 lineForm wide-line 1024 j (s .lines) h g))
     ∙ in-count s (take j (s .lines)) (length (s .lines)) j
     ∙ ap (λ (m : ℕ). flat (framed s m (lined (take j (s .lines))))) (sym n)
     ∙ ap flat (framed-is s (take j (s .lines)))

@@ -160,14 +160,15 @@ pub fn add_line(region: &mut [u8], line: Line)
     word::put_at(region, Layout::LINE_COUNT, 2, (n + 1) as u64);
 }
 
-// The first j lines stay. The bytes of the others become zeros.
+// The first j lines stay. The bytes of the others become zeros, as those behind the last line are already.
 pub fn keep_lines(region: &mut [u8], j: usize)
     requires { ⌜ Laid (now region) ⌝ }
     requires { ⌜ j ≤ length (view (now region) .lines) ⌝ }
     ensures { λ _. ⌜ Became (now (region .exit)) (withLines (view (now (region .entry))) (take j (view (now (region .entry)) .lines))) ⌝ }
 {
+    let count = region::count_lines(region);
     let a = Layout::LINES + j * Layout::LINE_WIDTH;
-    let e = Layout::SIZE;
+    let e = Layout::LINES + count * Layout::LINE_WIDTH;
     word::put_zeros(&mut region[a..e]);
     word::put_at(region, Layout::LINE_COUNT, 2, j as u64);
 }

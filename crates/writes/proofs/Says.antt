@@ -4,6 +4,7 @@ use mathlib.Core.Bool.{Bool, true, false, _||_, not, cond}
 use mathlib.Core.List.{List, [], map, append-nil}
 use Prim.Native.Nat.{ℕ, _≤_, _<_}
 use native.Mathlib.Omega.{arith}
+use lib.ListN.{getD}
 use lib.Dec.{leb}
 use borrow.Author.Tests.{not-true, not-false, le-leb, lt-leb}
 use Rattle.target.specs.declared.NameNumber.{NameNumber}
@@ -26,24 +27,35 @@ use Rattle.model.specs.declared.Packed.{Packed}
 use Rattle.model.specs.declared.Packed.the-variants as packed
 use Rattle.model.specs.Store.{Store, entryAt, isNone, isPacked}
 use Rattle.model.specs.Rows.{nameIn, changeIn, counts, packsUpdates, isDirect, keepsLock}
-use Rattle.model.specs.Due.{hasLines}
+use Rattle.model.specs.Due.{Stamp, hasLines, dueLine}
 use Rattle.model.specs.Writes.{packedSet, packedEdit, w2, w4}
 use Rattle.model.specs.Writes.Write.{appendLine}
 use Rattle.rows.specs.Due.{lineList}
 use Rattle.writes.specs.declared.OptionWrite.the-variants.{NoWrite, AppendLine, WriteLoose, RemoveLog, RemoveLoose}
 use Rattle.writes.specs.declared.OptionPackedEdit.{OptionPackedEdit}
 use Rattle.writes.specs.declared.OptionPackedEdit.the-variants.{NoPackedEdit, Sets}
-use Rattle.writes.specs.Next.{packedList, writeList, looseOf}
+use Rattle.writes.specs.Told.{tells}
+use Rattle.writes.specs.Next.{theRow, packedList, writeList, looseOf}
 
 -- ---- W1
 
-pub line-none : (s : Store) (o : OptionLine) (ls : List Line) → lineList o ≡ ls → o ≡ optionLine.NoLine → writeList s NoWrite ≡ map appendLine ls
-unfolding writeList
-line-none s o ls e f = rw (← e, f)
+-- what the flag of a row's name says
+pub told-of : (flags : List Bool) (s : Store) (i k : ℕ) (r : Edit) (has : Bool) → r ≡ theRow s i → k ≡ nameIn r .0 → has ≡ getD flags k false
+    → tells flags (theRow s i) ≡ hasLines s (nameIn (theRow s i)) → has ≡ hasLines s (nameIn r)
+told-of flags s i k r has er ek eh told =
+    eh ∙ ap (λ (j : ℕ). getD flags j false) (ek ∙ ap (λ (r : Edit). nameIn r .0) er) ∙ told ∙ ap (λ (r : Edit). hasLines s (nameIn r)) (sym er)
 
-pub line-due : (s : Store) (o : OptionLine) (ls : List Line) (l : Line) → lineList o ≡ ls → o ≡ optionLine.Line l → writeList s (AppendLine l) ≡ map appendLine ls
-unfolding writeList
-line-due s o ls l e f = rw (← e, f)
+module _ (stamp : Stamp) (s : Store) (i : ℕ) (r : Edit) (o : OptionLine) (er : r ≡ theRow s i) (e : lineList o ≡ dueLine stamp s r) where
+  due-is : map appendLine (lineList o) ≡ map appendLine (dueLine stamp s (theRow s i))
+  due-is = ap (map appendLine) (e ∙ ap (dueLine stamp s) er)
+
+  pub line-none : o ≡ optionLine.NoLine → writeList s NoWrite ≡ map appendLine (dueLine stamp s (theRow s i))
+  unfolding writeList
+  line-none f = ap (λ (o : OptionLine). map appendLine (lineList o)) (sym f) ∙ due-is
+
+  pub line-due : (l : Line) → o ≡ optionLine.Line l → writeList s (AppendLine l) ≡ map appendLine (dueLine stamp s (theRow s i))
+  unfolding writeList
+  line-due l f = ap (λ (o : OptionLine). map appendLine (lineList o)) (sym f) ∙ due-is
 
 module _ (s : Store) (mode : PackedRefs) (r : Edit) (keeps : Bool) (ek : keeps ≡ keepsLock s mode r) where
   pub loose-free : not keeps ≡ true → writeList s NoWrite ≡ looseOf s mode r
@@ -71,19 +83,29 @@ module _ (s : Store) (mode : PackedRefs) (r : Edit) (keeps : Bool) (ek : keeps �
 
 -- ---- W2
 
-module _ (s : Store) (r : Edit) (del : Bool) (ed : del ≡ isDelete (changeIn r)) where
-  pub log-update : not del ≡ true → writeList s NoWrite ≡ w2 s r
+module _ (s : Store) (i : ℕ) (r : Edit) (del : Bool) (er : r ≡ theRow s i) (ed : del ≡ isDelete (changeIn r)) where
+  whether : (b : Bool) → del ≡ b → isDelete (changeIn (theRow s i)) ≡ b
+  whether b t = ap (λ (r : Edit). isDelete (changeIn r)) (sym er) ∙ sym ed ∙ t
+
+  pub log-update : not del ≡ true → writeList s NoWrite ≡ w2 s (theRow s i)
   unfolding writeList w2
-  log-update t = rw (sym ed ∙ not-true del t)
+  log-update t = rw (whether false (not-true del t))
 
-  module _ (yes : not del ≡ false) (has : Bool) (eh : has ≡ hasLines s (nameIn r)) where
-    pub log-none : not has ≡ true → writeList s NoWrite ≡ w2 s r
-    unfolding writeList w2
-    log-none t = rw (sym ed ∙ not-false del yes, sym eh ∙ not-true has t)
+  module _ (yes : not del ≡ false) (flags : List Bool) (k : ℕ) (has : Bool) (ek : k ≡ nameIn r .0) (eh : has ≡ getD flags k false)
+      (told : isDelete (changeIn (theRow s i)) ≡ true → tells flags (theRow s i) ≡ hasLines s (nameIn (theRow s i))) where
+    said : (b : Bool) → has ≡ b → hasLines s (nameIn (theRow s i)) ≡ b
+    said b t =
+        ap (λ (r : Edit). hasLines s (nameIn r)) (sym er)
+        ∙ sym (told-of flags s i k r has er ek eh (told (whether true (not-false del yes))))
+        ∙ t
 
-    pub log-so : not has ≡ false → writeList s (RemoveLog (nameIn r)) ≡ w2 s r
+    pub log-none : not has ≡ true → writeList s NoWrite ≡ w2 s (theRow s i)
     unfolding writeList w2
-    log-so t = rw (sym ed ∙ not-false del yes, sym eh ∙ not-false has t)
+    log-none t = rw (whether true (not-false del yes), said false (not-true has t))
+
+    pub log-so : not has ≡ false → writeList s (RemoveLog (nameIn r)) ≡ w2 s (theRow s i)
+    unfolding writeList w2
+    log-so t = rw (whether true (not-false del yes), said true (not-false has t), ← er)
 
 -- ---- W4
 

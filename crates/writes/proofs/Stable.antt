@@ -1,11 +1,11 @@
 -- Which writes of the list are left as they are by a write that is made: what each decision looks at. Assumes nothing.
-use mathlib.Core.Path.{_≡_, refl, sym, ap, ap₂, _∙_}
+use mathlib.Core.Path.{_≡_, refl, sym, ap, ap₂, _∙_, subst}
 use mathlib.Core.Bool.{Bool, true, false, _&&_, _||_, not, cond}
 use mathlib.Core.List.{List, [], _∷_, _++_, map, append-nil}
 use mathlib.Core.Option.{Option}
 use Prim.Native.Nat.{ℕ, zero, suc, _+_, _≤_, _<_}
 use native.Mathlib.Omega.{arith}
-use lib.ListN.{length, getD}
+use lib.ListN.{length}
 use lib.Dec.{ltb, eqb}
 use borrow.Author.Tests.{ne-eqb, ltb-true}
 use Rattle.target.specs.declared.NameNumber.{NameNumber}
@@ -14,26 +14,21 @@ use Rattle.transaction.specs.declared.Edit.{Edit}
 use Rattle.transaction.specs.Change.{isDelete}
 use Rattle.model.specs.declared.Loose.{Loose}
 use Rattle.model.specs.declared.Line.{Line}
-use Rattle.model.specs.Basic.{any, select, collect, isEmpty, when}
-use Rattle.model.specs.Store.{Store, Prepared, rowsIn, modeIn, Entry, noEntry, entryOf, nameOf, isOf, isPacked, linesOf, putLoose, putPacked, changeAt, changeEntry, withEntries, withLines}
-use Rattle.model.specs.Rows.{nameIn, changeIn, counts, countsAsUpdate, opens, isDirect, keepsLock}
+use Rattle.model.specs.Basic.{any, select, isEmpty, when}
+use Rattle.model.specs.Store.{Store, Prepared, rowsIn, modeIn, Entry, noRow, entryOf, nameOf, isOf, isPacked, linesOf, putLoose, changeAt, changeEntry, withEntries, withLines}
+use Rattle.model.specs.Rows.{nameIn, changeIn, rowAt, counts, countsAsUpdate, opens, isDirect, keepsLock}
 use Rattle.model.specs.Due.{Stamp, hasLines, isLogged, dueLine}
 use Rattle.model.specs.Writes.{PackedEdit, apply, applyPacked, packedEdit, w2, w3, w4}
 use Rattle.model.specs.Writes.Write.{appendLine, removeLog, writePacked}
 use Rattle.model.proofs.Base.{changed-keeps, changed-other}
+use Rattle.model.proofs.Places.{any-same, collect-same}
+use Rattle.model.proofs.KeptCommit.{applied-keeps}
 use Rattle.model.proofs.Touch.{log-after}
 use Rattle.writes.specs.Next.{rowsOf, modeOf, theRow, looseOf, firstBy, secondBy, firstAt, secondAt, places, ahead}
+use Rattle.writes.specs.Told.{Told}
 use Rattle.writes.proofs.Place.{by-place}
 
 -- ---- lists
-
-collect-same : {A B : Type 0} (f g : A → List B) → ((x : A) → f x ≡ g x) → (xs : List A) → collect f xs ≡ collect g xs
-collect-same f g h [] = refl
-collect-same f g h (x ∷ xs) = ap₂ _++_ (h x) (collect-same f g h xs)
-
-any-same : {A : Type 0} (f g : A → Bool) → ((x : A) → f x ≡ g x) → (xs : List A) → any f xs ≡ any g xs
-any-same f g h [] = refl
-any-same f g h (x ∷ xs) = ap₂ _||_ (h x) (any-same f g h xs)
 
 -- a change that leaves what is tested
 any-changed : (p : Entry → Bool) (f : Entry → Entry) → ((e : Entry) → p (f e) ≡ p e) → (n : ℕ) (es : List Entry) → any p (changeAt f n es) ≡ any p es
@@ -114,6 +109,10 @@ module _ (s : Store) (n : ℕ) (v : Loose) where
   unfolding w2 linesOf
   loose-w2 r = refl
 
+  pub loose-lines : (m : NameNumber) → hasLines (changeEntry (putLoose v) n s) m ≡ hasLines s m
+  unfolding linesOf
+  loose-lines m = refl
+
   counts-same : (r : Edit) → counts put r ≡ counts s r
   unfolding counts
   counts-same r = rw (name-same (nameIn r))
@@ -129,8 +128,8 @@ module _ (s : Store) (n : ℕ) (v : Loose) where
   unfolding opens put
   opens-same mode rows =
       rw (
-        any-same (counts put) (counts s) counts-same rows,
-        any-same (countsAsUpdate put) (countsAsUpdate s) update-same rows,
+        any-same (counts put) (counts s) noRow rows (λ i h. counts-same (rowAt rows i)),
+        any-same (countsAsUpdate put) (countsAsUpdate s) noRow rows (λ i h. update-same (rowAt rows i)),
         any-changed (λ (e : Entry). isPacked (e .packed)) (putLoose v) (λ e. refl) n (s .entries),
       )
 
@@ -138,7 +137,7 @@ module _ (s : Store) (n : ℕ) (v : Loose) where
   unfolding w3 put
   loose-w3 mode rows =
       ap₂ (λ (b : Bool) (ps : List PackedEdit). when (b && not (isEmpty ps)) (writePacked ps))
-      (opens-same mode rows) (collect-same (packedEdit put mode) (packedEdit s mode) (edit-same mode) rows)
+      (opens-same mode rows) (collect-same (packedEdit put mode) (packedEdit s mode) noRow rows (λ i h. edit-same mode (rowAt rows i)))
 
   pub loose-w4 : (mode : PackedRefs) (r : Edit) → (n ≡ nameIn r .0 → ⊥) → w4 (changeEntry (putLoose v) n s) mode r ≡ w4 s mode r
   unfolding w4 isDirect put
@@ -153,26 +152,21 @@ module _ (s : Store) (n : ℕ) (v : Loose) where
 
 -- ---- packed values differ
 
-packs-name : (ps : List PackedEdit) (m : ℕ) (es : List Entry) → getD (applyPacked ps es) m noEntry .name ≡ getD es m noEntry .name
-packs-name [] m es = refl
-packs-name (p ∷ ps) m es =
-    packs-name ps m (changeAt (putPacked (p .value)) (p .name .0) es)
-    ∙ changed-keeps (λ (e : Entry). e .name) (putPacked (p .value)) (p .name .0) m es refl
-
-packs-loose : (ps : List PackedEdit) (m : ℕ) (es : List Entry) → getD (applyPacked ps es) m noEntry .loose ≡ getD es m noEntry .loose
-packs-loose [] m es = refl
-packs-loose (p ∷ ps) m es =
-    packs-loose ps m (changeAt (putPacked (p .value)) (p .name .0) es)
-    ∙ changed-keeps (λ (e : Entry). e .loose) (putPacked (p .value)) (p .name .0) m es refl
-
 pub packed-w4 : (s : Store) (ps : List PackedEdit) (mode : PackedRefs) (r : Edit) → w4 (withEntries s (applyPacked ps (s .entries))) mode r ≡ w4 s mode r
 unfolding w4 isDirect
-packed-w4 s ps mode r = rw (packs-name ps (nameIn r .0) (s .entries), packs-loose ps (nameIn r .0) (s .entries))
+packed-w4 s ps mode r =
+    rw (
+      applied-keeps (λ (e : Entry). e .name) (λ v e. refl) ps (s .entries) (nameIn r .0),
+      applied-keeps (λ (e : Entry). e .loose) (λ v e. refl) ps (s .entries) (nameIn r .0),
+    )
 
 -- ---- the places from k on are left as they are
 
 pub record Same (stamp : Stamp) (s t : Store) (k : ℕ) : Type 0 where
   pub rest : t .prepared ≡ s .prepared
+  pub lined : (i : ℕ) → k ≤ i → i < length (rowsOf s) → hasLines t (nameIn (theRow s i)) ≡ hasLines s (nameIn (theRow s i))
+  pub logged : (i : ℕ) → k ≤ length (rowsOf s) + i → i < length (rowsOf s) → isDelete (changeIn (theRow s i)) ≡ true
+      → hasLines t (nameIn (theRow s i)) ≡ hasLines s (nameIn (theRow s i))
   pub due : (i : ℕ) → k ≤ i → i < length (rowsOf s) → dueLine stamp t (theRow s i) ≡ dueLine stamp s (theRow s i)
   pub loose : (i : ℕ) → k ≤ i → i < length (rowsOf s) → looseOf t (modeOf s) (theRow s i) ≡ looseOf s (modeOf s) (theRow s i)
   pub two : (i : ℕ) → k ≤ length (rowsOf s) + i → i < length (rowsOf s) → w2 t (theRow s i) ≡ w2 s (theRow s i)
@@ -205,3 +199,12 @@ module _ (stamp : Stamp) (s t : Store) (k : ℕ) (same : Same stamp s t k) where
   ahead-same (suc m) j h g =
       ap₂ _++_ (first-same j h (omega arith))
       (ap₂ _++_ (second-same j h) (ahead-same m (suc j) (omega arith) (omega arith)))
+
+  -- what flags told before, they tell still
+  pub told-same : (flags : List Bool) (j : ℕ) → j ≤ k → Told flags s (rowsOf s) j → Told flags t (rowsOf t) k
+  told-same flags j h told =
+      subst (λ (p : Option Prepared). Told flags t (rowsIn p) k) (sym (same .rest))
+      (record {
+        line = λ i m g. told .line i (omega arith) g ∙ sym (same .lined i m g);
+        log = λ i m g d. told .log i (omega arith) g d ∙ sym (same .logged i m g d);
+      })

@@ -2,6 +2,7 @@
 use mathlib.Core.Path.{_≡_, refl, sym, ap, _∙_, subst}
 use mathlib.Core.Bool.{Bool, true, false, _&&_, _||_, not, cond}
 use mathlib.Core.List.{List, [], _∷_, map}
+use mathlib.Core.Option.{Option}
 use Prim.Native.Nat.{ℕ, suc, _+_, _≤_, _<_}
 use native.Mathlib.Omega.{arith}
 use lib.ListN.{length}
@@ -19,13 +20,14 @@ use Rattle.transaction.specs.Change.{newValue, isLogOnly, isDelete}
 use Rattle.model.specs.Basic.{isEmpty, when}
 use Rattle.model.specs.declared.Loose.the-variants as loose
 use Rattle.model.specs.declared.Line.{Line}
-use Rattle.model.specs.Store.{Store, entryOf, isNone, putLoose, changeEntry, withEntries, withLines}
+use Rattle.model.specs.Store.{Store, Prepared, rowsIn, entryOf, isNone, putLoose, changeEntry, withEntries, withLines}
 use Rattle.model.specs.Rows.{nameIn, changeIn, opens, isDirect, keepsLock}
 use Rattle.model.specs.Due.{Stamp, Move, moveOf, hasLines, isLogged, lineBy, dueLine}
 use Rattle.model.specs.Writes.{Write, PackedEdit, apply, applyPacked, looseWrite, packedEdits, w2, w3, w4}
 use Rattle.model.specs.Writes.Write.{appendLine, writeLoose, removeLog, writePacked, removeLoose}
 use Rattle.writes.specs.Next.{rowsOf, modeOf, theRow, looseOf, firstAt, secondAt, places, ahead}
-use Rattle.writes.proofs.Stable.{ahead-same}
+use Rattle.writes.specs.Told.{Told}
+use Rattle.writes.proofs.Stable.{Same, ahead-same, told-same}
 use Rattle.rows.specs.Rows.{Apart}
 use Rattle.writes.proofs.Place.{first-by}
 use Rattle.writes.proofs.Keeps.{keeps-line, keeps-loose, keeps-log, keeps-packed, keeps-gone}
@@ -71,17 +73,29 @@ unfolding secondAt
 second-none s k h = rw (le-ltb k (length (rowsOf s)) h)
 
 module _ (stamp : Stamp) (s : Store) (a : Apart (rowsOf s)) (k m : ℕ) (room : suc k + m ≤ places s) where
+  -- what flags tell of the later places
+  abbrev Tells : ℕ → Store → Type 0
+  Tells j t = (flags : List Bool) → Told flags s (rowsOf s) j → Told flags t (rowsOf t) (suc k)
+
   -- the rest of the list, as it was
   abbrev Stays : Write → Type 0
-  Stays w = (secondAt (apply w s) k ≡ secondAt s k) × (ahead stamp (apply w s) (suc k) m ≡ ahead stamp s (suc k) m)
+  Stays w = (secondAt (apply w s) k ≡ secondAt s k) × (ahead stamp (apply w s) (suc k) m ≡ ahead stamp s (suc k) m) × Tells k (apply w s)
+
+  all-same : (t : Store) → secondAt t k ≡ secondAt s k → Same stamp s t (suc k)
+      → (secondAt t k ≡ secondAt s k) × (ahead stamp t (suc k) m ≡ ahead stamp s (suc k) m) × Tells k t
+  all-same t e same = (e, ahead-same stamp s t (suc k) same m (suc k) (omega arith) room, λ flags. told-same stamp s t (suc k) same flags k (omega arith))
 
   second-lines : (ls : List Line) → secondAt (withLines s ls) k ≡ secondAt s k
   unfolding secondAt looseOf keepsLock isDirect
   second-lines ls = refl
 
+  second-late : (t : Store) → t .prepared ≡ s .prepared → length (rowsOf s) ≤ k → secondAt t k ≡ secondAt s k
+  second-late t e h =
+      second-none t k (subst (λ (p : Option Prepared). length (rowsIn p) ≤ k) (sym e) h) ∙ sym (second-none s k h)
+
   made-line : (v : Move) → k < length (rowsOf s) → isDelete (changeIn (theRow s k)) ≡ false → Stays (appendLine (lineBy stamp (theRow s k) v))
   unfolding apply
-  made-line v h d = (second-lines _, ahead-same stamp s _ (suc k) (keeps-line stamp s a k (lineBy stamp (theRow s k) v) h refl d) m (suc k) (omega arith) room)
+  made-line v h d = all-same _ (second-lines _) (keeps-line stamp s a k (lineBy stamp (theRow s k) v) h refl d)
 
   stays-line : (w : Write) → k < length (rowsOf s) → map appendLine (dueLine stamp s (theRow s k)) ≡ w ∷ [] → Stays w
   unfolding dueLine
@@ -91,7 +105,7 @@ module _ (stamp : Stamp) (s : Store) (a : Apart (rowsOf s)) (k m : ℕ) (room : 
 
   made-log : (j : ℕ) → j < length (rowsOf s) → k ≡ length (rowsOf s) + j → Stays (removeLog (nameIn (theRow s j)))
   unfolding apply
-  made-log j h e = (second-lines _, ahead-same stamp s _ (suc k) (keeps-log stamp s a k j h e) m (suc k) (omega arith) room)
+  made-log j h e = all-same _ (second-lines _) (keeps-log stamp s a k j h e)
 
   stays-log : (w : Write) (j : ℕ) → j < length (rowsOf s) → k ≡ length (rowsOf s) + j → w2 s (theRow s j) ≡ w ∷ [] → Stays w
   unfolding w2
@@ -99,10 +113,7 @@ module _ (stamp : Stamp) (s : Store) (a : Apart (rowsOf s)) (k m : ℕ) (room : 
 
   made-packed : (ps : List PackedEdit) → k ≡ length (rowsOf s) + length (rowsOf s) → Stays (writePacked ps)
   unfolding apply
-  made-packed ps e = (
-    second-none (withEntries s (applyPacked ps (s .entries))) k (omega arith) ∙ sym (second-none s k (omega arith)),
-    ahead-same stamp s _ (suc k) (keeps-packed stamp s a k ps e) m (suc k) (omega arith) room,
-  )
+  made-packed ps e = all-same _ (second-late (withEntries s (applyPacked ps (s .entries))) refl (omega arith)) (keeps-packed stamp s a k ps e)
 
   stays-packed : (w : Write) → k ≡ length (rowsOf s) + length (rowsOf s) → w3 s (modeOf s) (rowsOf s) ≡ w ∷ [] → Stays w
   unfolding w3
@@ -110,10 +121,8 @@ module _ (stamp : Stamp) (s : Store) (a : Apart (rowsOf s)) (k m : ℕ) (room : 
 
   made-gone : (j : ℕ) → j < length (rowsOf s) → k ≡ length (rowsOf s) + length (rowsOf s) + 1 + j → Stays (removeLoose (nameIn (theRow s j)))
   unfolding apply
-  made-gone j h e = (
-    second-none (changeEntry (putLoose loose.None) (nameIn (theRow s j) .0) s) k (omega arith) ∙ sym (second-none s k (omega arith)),
-    ahead-same stamp s _ (suc k) (keeps-gone stamp s a k loose.None j h e) m (suc k) (omega arith) room,
-  )
+  made-gone j h e =
+      all-same _ (second-late (changeEntry (putLoose loose.None) (nameIn (theRow s j) .0) s) refl (omega arith)) (keeps-gone stamp s a k loose.None j h e)
 
   stays-gone : (w : Write) (j : ℕ) → j < length (rowsOf s) → k ≡ length (rowsOf s) + length (rowsOf s) + 1 + j → w4 s (modeOf s) (theRow s j) ≡ w ∷ [] → Stays w
   unfolding w4
@@ -125,23 +134,28 @@ module _ (stamp : Stamp) (s : Store) (a : Apart (rowsOf s)) (k m : ℕ) (room : 
       first-by stamp s k (λ us. us ≡ w ∷ [] → Stays w) (omega arith)
       (λ h. stays-line w h) (λ j h q. stays-log w j h q) (λ q. stays-packed w q) (λ j h q. stays-gone w j h q)
 
+  -- the places behind this one, as they were
+  abbrev Left : Write → Type 0
+  Left w = (ahead stamp (apply w s) (suc k) m ≡ ahead stamp s (suc k) m) × Tells (suc k) (apply w s)
+
   made-loose : (t : Target) → k < length (rowsOf s) → isDelete (changeIn (theRow s k)) ≡ false → isDirect s (modeOf s) (theRow s k) ≡ false
-      → ahead stamp (apply (writeLoose (nameIn (theRow s k)) t) s) (suc k) m ≡ ahead stamp s (suc k) m
+      → Left (writeLoose (nameIn (theRow s k)) t)
   unfolding apply
-  made-loose t h d f = ahead-same stamp s _ (suc k) (keeps-loose stamp s a k (loose.Target t) h d f) m (suc k) (omega arith) room
+  made-loose t h d f =
+      let same = keeps-loose stamp s a k (loose.Target t) h d f in
+      (ahead-same stamp s _ (suc k) same m (suc k) (omega arith) room, λ flags. told-same stamp s _ (suc k) same flags (suc k) (omega arith))
 
   -- and whatever it writes second
-  pub second-stays : (w : Write) → secondAt s k ≡ w ∷ [] → ahead stamp (apply w s) (suc k) m ≡ ahead stamp s (suc k) m
+  pub second-stays : (w : Write) → secondAt s k ≡ w ∷ [] → Left w
   unfolding secondAt looseOf
   second-stays w e = go (ltb k (length (rowsOf s))) refl e
     where
       go : (b : Bool) → ltb k (length (rowsOf s)) ≡ b
           → cond b (cond (keepsLock s (modeOf s) (theRow s k) && not (isLogOnly (changeIn (theRow s k))) && not (isDirect s (modeOf s) (theRow s k)))
           (looseWrite (nameIn (theRow s k)) (newValue (changeIn (theRow s k)))) []) []
-          ≡ w ∷ [] → ahead stamp (apply w s) (suc k) m ≡ ahead stamp s (suc k) m
+          ≡ w ∷ [] → Left w
       go true p h =
           let sh = loose-shape (keepsLock s (modeOf s) (theRow s k)) (isLogOnly (changeIn (theRow s k))) (isDirect s (modeOf s) (theRow s k))
           (nameIn (theRow s k)) (newValue (changeIn (theRow s k))) w h in
-          subst (λ (w : Write). ahead stamp (apply w s) (suc k) m ≡ ahead stamp s (suc k) m) (sh .1)
-          (made-loose (sh .0) (ltb-true k (length (rowsOf s)) p) (valued-updates (changeIn (theRow s k)) (sh .0) (sh .3)) (sh .2))
+          subst Left (sh .1) (made-loose (sh .0) (ltb-true k (length (rowsOf s)) p) (valued-updates (changeIn (theRow s k)) (sh .0) (sh .3)) (sh .2))
       go false p h = no-write w h

@@ -9,11 +9,12 @@ use borrow.Author.Tests.{lt-ltb, le-ltb, eq-eqb, ne-eqb, not-true, not-false}
 use Rattle.target.specs.declared.NameNumber.{NameNumber}
 use Rattle.transaction.specs.declared.PackedRefs.{PackedRefs}
 use Rattle.transaction.specs.declared.Edit.{Edit}
+use Rattle.transaction.specs.Change.{isDelete}
 use Rattle.model.specs.declared.Packed.{Packed}
 use Rattle.model.specs.Basic.{any, isEmpty, collect}
 use Rattle.model.specs.Store.{Store, count}
-use Rattle.model.specs.Rows.{nameIn, opens}
-use Rattle.model.specs.Due.{Stamp, dueLine}
+use Rattle.model.specs.Rows.{nameIn, changeIn, opens}
+use Rattle.model.specs.Due.{Stamp, hasLines, dueLine}
 use Rattle.model.specs.Writes.{PackedEdit, packedEdit, packedEdits, w2, w3, w4}
 use Rattle.model.specs.Writes.Write.{appendLine}
 use Rattle.rows.specs.Rows.{Named}
@@ -21,6 +22,7 @@ use Rattle.writes.specs.declared.OptionWrite.{OptionWrite}
 use Rattle.writes.specs.declared.OptionWrite.the-variants.{NoWrite, WritePacked}
 use Rattle.writes.specs.declared.OptionPackedEdit.{OptionPackedEdit}
 use Rattle.writes.specs.declared.OptionPackedEdit.the-variants.{NoPackedEdit, Sets}
+use Rattle.writes.specs.Told.{tells, Told}
 use Rattle.writes.specs.Next.{rowsOf, modeOf, theRow, packedList, writeList, looseOf, firstAt, secondAt, places}
 
 pub edit-there : (n : NameNumber) (o : OptionPackedEdit) (v : Packed) (ps : List PackedEdit) → packedList n o ≡ ps → o ≡ Sets v → true ≡ not (isEmpty ps)
@@ -49,6 +51,15 @@ pub gone-named : (s : Store) (n k : ℕ) (r : Edit) → Named s → n ≡ length
     → r ≡ theRow s (k - n - n - 1) → nameIn r .0 < count s
 gone-named s n k r d e h l g ne er = rw er (d .named (k - n - n - 1) (omega arith))
 
+-- what flags tell at a place
+module _ (flags : List Bool) (s : Store) (k n : ℕ) (told : Told flags s (rowsOf s) k) (en : n ≡ length (rowsOf s)) where
+  pub line-told : k < n → tells flags (theRow s k) ≡ hasLines s (nameIn (theRow s k))
+  line-told h = told .line k (omega arith) (omega arith)
+
+  pub log-told : n ≤ k → k - n < n → isDelete (changeIn (theRow s (k - n))) ≡ true
+      → tells flags (theRow s (k - n)) ≡ hasLines s (nameIn (theRow s (k - n)))
+  log-told h g = told .log (k - n) (omega arith) (omega arith)
+
 module _ (s : Store) (o : Bool) (eo : o ≡ opens s (modeOf s) (rowsOf s)) where
   pub packed-shut : not o ≡ true → writeList s NoWrite ≡ w3 s (modeOf s) (rowsOf s)
   unfolding writeList w3
@@ -64,13 +75,13 @@ module _ (s : Store) (o : Bool) (eo : o ≡ opens s (modeOf s) (rowsOf s)) where
     packed-so t = rw (sym eo ∙ not-false o yes, sym ea ∙ not-false a t)
 
 module _ (stamp : Stamp) (s : Store) (k n : ℕ) (x : OptionWrite) (en : n ≡ length (rowsOf s)) where
-  pub at-line : (r : Edit) → k < n → r ≡ theRow s k → writeList s x ≡ map appendLine (dueLine stamp s r) → writeList s x ≡ firstAt stamp s k
+  pub at-line : k < n → writeList s x ≡ map appendLine (dueLine stamp s (theRow s k)) → writeList s x ≡ firstAt stamp s k
   unfolding firstAt
-  at-line r l er h = h ∙ (rw (er, ← en, lt-ltb k n l))
+  at-line l h = h ∙ (rw (← en, lt-ltb k n l))
 
-  pub at-log : (r : Edit) → n ≤ k → k - n < n → r ≡ theRow s (k - n) → writeList s x ≡ w2 s r → writeList s x ≡ firstAt stamp s k
+  pub at-log : n ≤ k → k - n < n → writeList s x ≡ w2 s (theRow s (k - n)) → writeList s x ≡ firstAt stamp s k
   unfolding firstAt
-  at-log r l g er h = h ∙ (rw (er, ← en, le-ltb k n l, lt-ltb (k - n) n g))
+  at-log l g h = h ∙ (rw (← en, le-ltb k n l, lt-ltb (k - n) n g))
 
   pub at-packed : n ≤ k → n ≤ k - n → k - n ≡ n → writeList s x ≡ w3 s (modeOf s) (rowsOf s) → writeList s x ≡ firstAt stamp s k
   unfolding firstAt

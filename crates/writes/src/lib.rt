@@ -1,20 +1,22 @@
 // The next write of commit as a value: decided here, made in crate committing. All writes stand in one list, by places: a place is
 // a row's turn in W1, in W2 or in W4, or the packed write (W3). Who asks for the writes need not make them.
 ghost use mathlib.Core.Path.{_≡_};
-ghost use mathlib.Core.Bool.{_||_, not};
+ghost use mathlib.Core.Bool.{true, _||_, not};
 ghost use mathlib.Core.List.{map};
 ghost use Prim.Native.Nat.{_<_};
+ghost use lib.ListN.{length};
 ghost use Rattle.transaction.specs.Change.{isDelete};
 ghost use Rattle.model.specs.Basic.{isEmpty};
 ghost use Rattle.model.specs.Store.{count, isNone};
 ghost use Rattle.model.specs.Rows.{nameIn, changeIn, isDirect};
-ghost use Rattle.model.specs.Due.{dueLine};
+ghost use Rattle.model.specs.Due.{hasLines, dueLine};
 ghost use Rattle.model.specs.Demand3.{by};
 ghost use Rattle.model.specs.Writes.{packedSet, packedEdit, packedEdits, w2, w3, w4};
 ghost use Rattle.model.specs.Writes.Write.{appendLine};
 ghost use Rattle.region.specs.Region.{view, Laid};
 ghost use Rattle.rows.specs.Rows.{Named};
-ghost use Rattle.writes.specs.Next.{rowsOf, modeOf, packedList, writeList, looseOf, firstAt, secondAt, places};
+ghost use Rattle.writes.specs.Next.{rowsOf, modeOf, theRow, packedList, writeList, looseOf, firstAt, secondAt, places};
+ghost use Rattle.writes.specs.Told.{tells, Told};
 use model::Line;
 use model::Loose;
 use model::OptionLine;
@@ -37,13 +39,17 @@ pub enum OptionWrite {
 
 // ---- W1
 
-// The row's log line, if it is due.
-pub fn next_line(region: &[u8], committer: u16, row: Edit) -> OptionWrite
+// The log line of a row, if it is due. Whether its name has lines is told by the flag.
+fn next_line(region: &[u8], flags: &[bool], committer: u16, i: usize) -> OptionWrite
     requires { ⌜ Laid (now region) ⌝ }
-    ensures { λ r. ⌜ writeList (view (now (region .entry))) r ≡ map appendLine (dueLine (by committer) (view (now (region .entry))) row) ⌝ }
+    requires { ⌜ i < length (rowsOf (view (now region))) ⌝ }
+    requires { ⌜ tells (now flags) (theRow (view (now region)) i) ≡ hasLines (view (now region)) (nameIn (theRow (view (now region)) i)) ⌝ }
+    ensures { λ r. ⌜ writeList (view (now (region .entry))) r ≡ map appendLine (dueLine (by committer) (view (now (region .entry))) (theRow (view (now (region .entry))) i)) ⌝ }
 {
+    let row = region::row_at(region, i);
     let update = row.update;
-    let has = rows::has_lines(region, update.name);
+    let name = update.name;
+    let has = word::is_raised(flags, name.place());
     let OptionLine::Line(line) = rows::due_line(region, has, committer, row) else {
         return OptionWrite::NoWrite;
     };
@@ -75,18 +81,21 @@ pub fn next_loose(region: &[u8], mode: PackedRefs, row: Edit) -> OptionWrite
 
 // ---- W2
 
-// The log of a deleted name, if it has one.
-pub fn next_log(region: &[u8], row: Edit) -> OptionWrite
+// The log of a deleted name, if it has one, as the flag tells.
+fn next_log(region: &[u8], flags: &[bool], i: usize) -> OptionWrite
     requires { ⌜ Laid (now region) ⌝ }
-    ensures { λ r. ⌜ writeList (view (now (region .entry))) r ≡ w2 (view (now (region .entry))) row ⌝ }
+    requires { ⌜ i < length (rowsOf (view (now region))) ⌝ }
+    requires { ⌜ (isDelete (changeIn (theRow (view (now region)) i)) ≡ true → tells (now flags) (theRow (view (now region)) i) ≡ hasLines (view (now region)) (nameIn (theRow (view (now region)) i))) ⌝ }
+    ensures { λ r. ⌜ writeList (view (now (region .entry))) r ≡ w2 (view (now (region .entry))) (theRow (view (now (region .entry))) i) ⌝ }
 {
+    let row = region::row_at(region, i);
     let update = row.update;
     let change = update.change;
     let name = update.name;
     if !change.is_delete() {
         return OptionWrite::NoWrite;
     }
-    if !rows::has_lines(region, name) {
+    if !word::is_raised(flags, name.place()) {
         return OptionWrite::NoWrite;
     }
     OptionWrite::RemoveLog(name)
@@ -228,20 +237,22 @@ pub fn next_gone(region: &[u8], mode: PackedRefs, row: Edit) -> OptionWrite
 
 // ---- by places
 
-// The write of a place; in W1 the first of two.
-pub fn next_first(region: &[u8], committer: u16, k: usize) -> OptionWrite
+// The write of a place; in W1 the first of two. The flags were raised before the first write: they tell of every row whose line or log
+// is still to be decided whether its name has lines.
+pub fn next_first(region: &[u8], flags: &[bool], committer: u16, k: usize) -> OptionWrite
     requires { ⌜ Laid (now region) ⌝ }
     requires { ⌜ Named (view (now region)) ⌝ }
+    requires { ⌜ Told (now flags) (view (now region)) (rowsOf (view (now region))) k ⌝ }
     requires { ⌜ k < places (view (now region)) ⌝ }
     ensures { λ r. ⌜ writeList (view (now (region .entry))) r ≡ firstAt (by committer) (view (now (region .entry))) k ⌝ }
 {
     let rows = region::count_rows(region);
     if k < rows {
-        return next_line(region, committer, region::row_at(region, k));
+        return next_line(region, flags, committer, k);
     }
     let j = k - rows;
     if j < rows {
-        return next_log(region, region::row_at(region, j));
+        return next_log(region, flags, j);
     }
     if j == rows {
         return next_packed(region);

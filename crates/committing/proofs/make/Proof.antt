@@ -1,4 +1,4 @@
-use Rattle.committing.proofs.Making.{line-room, line-fits, loose-named, loose-fits, pack-named, pack-apart, gone-named, makes-nothing, makes-line, makes-loose, makes-log, makes-packed, makes-gone}
+use Rattle.committing.proofs.Making.{line-room, line-fits, loose-named, loose-fits, pack-named, pack-apart, removed-named, makes-nothing, makes-line, makes-loose, makes-log, makes-packed, makes-gone}
 use borrow.Author.Needs.{needs}
 use Rattle.committing.proofs.make.Statement.{statement}
 use Rattle.committing.proofs.make.Tie as tie
@@ -34,7 +34,7 @@ enum-known-next-4 : tie.Need-enum-known-next-4
 enum-known-next-4 c = search needs
 
 put-loose-at-requires-2 : tie.Need-put-loose-at-requires-2
-put-loose-at-requires-2 c κs = (search needs, (search gone-named, tt))
+put-loose-at-requires-2 c κs = (search needs, (search removed-named, tt))
 
 returns : tie.Need-returns
 returns c = search makes-nothing

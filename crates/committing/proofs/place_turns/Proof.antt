@@ -5,7 +5,7 @@ use Rattle.committing.proofs.place_turns.Tie as tie
 
 first-turn-requires : tie.Need-first-turn-requires
 first-turn-requires c κs =
-    (search needs, (search needs, (search needs, (search needs, (search needs, (search needs, search fewer))))))
+    (search needs, (search needs, (search needs, (search needs, (search needs, (search needs, (search needs, search fewer)))))))
 
 second-turn-requires : tie.Need-second-turn-requires
 second-turn-requires c κs = (search needs, (search half-named, (search half-apart, search half-made)))

@@ -1,5 +1,5 @@
 use borrow.Author.Needs.{needs}
-use Rattle.layout.proofs.Laws.{layout-size, layout-head, layout-tables}
+use Rattle.layout.proofs.Laws.{layout-size, layout-head, head-passed, layout-tables}
 use Rattle.layout.proofs.is_laid.Statement.{statement}
 use Rattle.layout.proofs.is_laid.Tie as tie
 
@@ -13,7 +13,7 @@ returns-2 : tie.Need-returns-2
 returns-2 c = search layout-head
 
 tables-ok-requires : tie.Need-tables-ok-requires
-tables-ok-requires c κs = search needs
+tables-ok-requires c κs = (search needs, search head-passed)
 
 returns-3 : tie.Need-returns-3
 returns-3 c = search layout-tables

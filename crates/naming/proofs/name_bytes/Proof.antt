@@ -1,11 +1,20 @@
 use borrow.Author.Needs.{needs}
-use Rattle.calls.proofs.Replies.{good-laid, bad-region}
-use Rattle.naming.proofs.Laws.{fits-product, fits-base, fits-offset, bytes-done, bytes-far}
+use Rattle.calls.proofs.Replies.{bad-region}
+use Rattle.naming.proofs.Laws.{tested, fits-product, fits-base, fits-offset, bytes-done, bytes-far}
 use Rattle.naming.proofs.name_bytes.Statement.{statement}
 use Rattle.naming.proofs.name_bytes.Tie as tie
 
-name-part-requires : tie.Need-name-part-requires
-name-part-requires c κs = search needs
+is-good-requires : tie.Need-is-good-requires
+is-good-requires c κs = search needs
+
+bare-requires : tie.Need-bare-requires
+bare-requires c κs = search needs
+
+returns : tie.Need-returns
+returns c = search bad-region
+
+part-of-requires : tie.Need-part-of-requires
+part-of-requires c κs = search tested
 
 mul-two : tie.Need-mul-two
 mul-two c = search fits-product
@@ -19,17 +28,8 @@ add-two-2 c = search fits-offset
 two-requires : tie.Need-two-requires
 two-requires c κs = search needs
 
-returns : tie.Need-returns
-returns c = search bytes-done
-
-is-good-requires : tie.Need-is-good-requires
-is-good-requires c κs = search needs
-
-bare-requires : tie.Need-bare-requires
-bare-requires c κs = search needs
-
 returns-2 : tie.Need-returns-2
-returns-2 c = search bad-region
+returns-2 c = search bytes-done
 
 one-requires : tie.Need-one-requires
 one-requires c κs = search needs
@@ -41,14 +41,14 @@ pub name-bytes-spec : {M : Type 1} → statement M
 name-bytes-spec =
     tie.close
     (tie.spec
-    name-part-requires
+    is-good-requires
+    bare-requires
+    returns
+    part-of-requires
     mul-two
     add-two
     add-two-2
     two-requires
-    returns
-    is-good-requires
-    bare-requires
     returns-2
     one-requires
     returns-3)

@@ -1,19 +1,58 @@
-use borrow.Author.Needs.{needs}
-use Rattle.rules.proofs.Marks.{mark-short, mark-long}
+use mathlib.Core.Path.{_≡_}
+use Prim.Native.Nat.{_-_, _≤_}
+use native.Mathlib.Omega.{arith}
+use lib.ListN.{length, drop}
+use lib.Dec.{lit<}
+use Rattle.rules.specs.Marks.{markOn, markOf}
+use Rattle.rules.proofs.Marks.{mark-room, mark-start, mark-more, mark-end}
 use Rattle.rules.proofs.mark.Statement.{statement}
 use Rattle.rules.proofs.mark.Tie as tie
 
-get-requires : tie.Need-get-requires
-get-requires c κs = search needs
+abbrev Inv-loop : tie.InvT-loop
+Inv-loop name acc₀ i₀ acc i = (i ≤ length name) × (markOn acc (drop i name) ≡ markOf name)
 
-returns : tie.Need-returns
-returns c = search mark-short
+abbrev μ-loop : tie.MeasureT-loop
+μ-loop name acc₀ i₀ acc i = length name - i
 
-get-at-requires : tie.Need-get-at-requires
-get-at-requires c κs = search needs
+loop-holds : tie.Need-loop-holds Inv-loop μ-loop
+loop-holds c = (omega arith, mark-start _)
 
-returns-2 : tie.Need-returns-2
-returns-2 c = search mark-long
+mul-acc : tie.Need-mul-acc Inv-loop μ-loop
+mul-acc c = record { fits = omega (arith, mark-room (c .before .loop .acc) 0 (lit< tt)) }
+
+shared-slice-read-acc : tie.Need-shared-slice-read-acc Inv-loop μ-loop
+shared-slice-read-acc c = omega arith
+
+cast-acc : tie.Need-cast-acc Inv-loop μ-loop
+cast-acc c = omega (arith, c .shared-slice-known .given (c .before .before .loop .i))
+
+add-acc : tie.Need-add-acc Inv-loop μ-loop
+add-acc c = record { fits = search (mark-room, c .shared-slice-known .given (c .before .before .loop .i)) }
+
+add-i : tie.Need-add-i Inv-loop μ-loop
+add-i c = omega arith
+
+loop-less : tie.Need-loop-less Inv-loop μ-loop
+loop-less c = omega arith
+
+loop-again : tie.Need-loop-again Inv-loop μ-loop
+loop-again c = (omega arith, search mark-more)
+
+returns : tie.Need-returns Inv-loop μ-loop
+returns c = search mark-end
 
 pub mark-spec : {M : Type 1} → statement M
-mark-spec = tie.close (tie.spec get-requires returns get-at-requires returns-2)
+mark-spec =
+    tie.close
+    (tie.spec
+    Inv-loop
+    μ-loop
+    loop-holds
+    mul-acc
+    shared-slice-read-acc
+    cast-acc
+    add-acc
+    add-i
+    loop-less
+    loop-again
+    returns)

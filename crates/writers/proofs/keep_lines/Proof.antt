@@ -3,11 +3,20 @@ use Rattle.writers.proofs.LineLaws.{keep-is}
 use Rattle.writers.proofs.keep_lines.Statement.{statement}
 use Rattle.writers.proofs.keep_lines.Tie as tie
 
+count-lines-requires : tie.Need-count-lines-requires
+count-lines-requires c κs = search needs
+
 mul-a : tie.Need-mul-a
 mul-a c = search needs
 
 add-a : tie.Need-add-a
 add-a c = search needs
+
+mul-e : tie.Need-mul-e
+mul-e c = search needs
+
+add-e : tie.Need-add-e
+add-e c = search needs
 
 sub-put-zeros : tie.Need-sub-put-zeros
 sub-put-zeros c = search needs
@@ -34,8 +43,11 @@ pub keep-lines-spec : {M : Type 1} → statement M
 keep-lines-spec =
     tie.close
     (tie.spec
+    count-lines-requires
     mul-a
     add-a
+    mul-e
+    add-e
     sub-put-zeros
     part-put-zeros-start
     part-put-zeros-end

@@ -1,4 +1,4 @@
-use Rattle.writes.proofs.Turns.{gone-named, at-line, at-log, at-packed, at-gone}
+use Rattle.writes.proofs.Turns.{line-told, log-told, gone-named, at-line, at-log, at-packed, at-gone}
 use borrow.Author.Needs.{needs}
 use Rattle.writes.proofs.next_first.Statement.{statement}
 use Rattle.writes.proofs.next_first.Tie as tie
@@ -6,20 +6,14 @@ use Rattle.writes.proofs.next_first.Tie as tie
 count-rows-requires : tie.Need-count-rows-requires
 count-rows-requires c κs = search needs
 
-row-at-requires : tie.Need-row-at-requires
-row-at-requires c κs = search needs
-
 next-line-requires : tie.Need-next-line-requires
-next-line-requires c κs = search needs
+next-line-requires c κs = (search needs, (search needs, search line-told))
 
 returns : tie.Need-returns
 returns c = search at-line
 
-row-at-requires-2 : tie.Need-row-at-requires-2
-row-at-requires-2 c κs = search needs
-
 next-log-requires : tie.Need-next-log-requires
-next-log-requires c κs = search needs
+next-log-requires c κs = (search needs, (search needs, search log-told))
 
 returns-2 : tie.Need-returns-2
 returns-2 c = search at-log
@@ -36,8 +30,8 @@ sub-i c = search needs
 mode-requires : tie.Need-mode-requires
 mode-requires c κs = search needs
 
-row-at-requires-3 : tie.Need-row-at-requires-3
-row-at-requires-3 c κs = search needs
+row-at-requires : tie.Need-row-at-requires
+row-at-requires c κs = search needs
 
 next-gone-requires : tie.Need-next-gone-requires
 next-gone-requires c κs = search (needs, gone-named)
@@ -50,16 +44,14 @@ next-first-spec =
     tie.close
     (tie.spec
     count-rows-requires
-    row-at-requires
     next-line-requires
     returns
-    row-at-requires-2
     next-log-requires
     returns-2
     next-packed-requires
     returns-3
     sub-i
     mode-requires
-    row-at-requires-3
+    row-at-requires
     next-gone-requires
     returns-4)
