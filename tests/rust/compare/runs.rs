@@ -1,5 +1,6 @@
 //! The runs: which cases are tried, and how many.
 
+use crate::crossed;
 use crate::dice::Dice;
 use crate::doubles;
 use crate::git::{self, Git};
@@ -32,6 +33,7 @@ pub fn share(site: &Site, part: u64) -> bool {
 /// One of each `stride` exhaustive cases, and so many random ones without and with git. It ends with 'N passed, M failed'.
 fn some(site: &Site, stride: u64, count: u64, with_git: u64, seed: u64) -> bool {
     let mut tallies = vec![differences(site), named(site)];
+    tallies.push(crossed(site, stride));
     tallies.push(singles(site, stride));
     tallies.push(doubles(site, stride));
     tallies.push(random(site, count, seed));
@@ -55,9 +57,14 @@ pub fn quick(site: &Site) -> bool {
     named(site).fine() && singles(site, 211).fine() && doubles(site, 211).fine() && random(site, 1_000, 1).fine()
 }
 
-/// One of each `stride` cases with one edit.
+/// One of each `stride` cases with one edit, of the product of all lists.
+pub fn crossed(site: &Site, stride: u64) -> Tally {
+    exhaustive(site, "one edit over two names, crossed", stride, crossed::each)
+}
+
+/// One of each `stride` cases with one edit, of the families with more values.
 pub fn singles(site: &Site, stride: u64) -> Tally {
-    exhaustive(site, "one edit over two names", stride, singles::each)
+    exhaustive(site, "one edit over two names, in families", stride, singles::each)
 }
 
 /// One of each `stride` cases with two edits.
