@@ -5,7 +5,7 @@ use crate::case::{packable, Case, End, Loose, State, Store, Target, ENOUGH};
 use crate::product::{expectations, pairs, Parts};
 
 /// The edited name and the other one. Of the first two only the other can be packed, of the second both can.
-const NAMES: [[&str; 2]; 2] = [["HEAD", "refs/heads/aisle"], ["refs/heads/aisle", "refs/tags/v1"]];
+pub const NAMES: [[&str; 2]; 2] = [["HEAD", "refs/heads/aisle"], ["refs/heads/aisle", "refs/tags/v1"]];
 
 const SETTINGS: [u8; 3] = [0, 1, 2];
 const MODES: [u8; 3] = [1, 2, 3];
@@ -15,15 +15,13 @@ const TWO: Target = Target::Object(2);
 const OTHER: Target = Target::Link(1);
 const ITSELF: Target = Target::Link(0);
 
-/// Hands out every case.
-pub fn each(hand_out: &mut dyn FnMut(&Case)) {
-    for names in NAMES {
-        for state in states(names) {
-            for (&setting, &mode) in pairs(&SETTINGS, &MODES) {
-                let store = Store { state: state.clone(), ..Store::new(setting, &names) };
-                let end = End::Commit { committer: 1, allowance: ENOUGH };
-                edits(Case { store, edits: Vec::new(), mode, end }, hand_out);
-            }
+/// Hands out every case with these names.
+pub fn with(names: [&str; 2], hand_out: &mut dyn FnMut(&Case)) {
+    for state in states(names) {
+        for (&setting, &mode) in pairs(&SETTINGS, &MODES) {
+            let store = Store { state: state.clone(), ..Store::new(setting, &names) };
+            let end = End::Commit { committer: 1, allowance: ENOUGH };
+            edits(Case { store, edits: Vec::new(), mode, end }, hand_out);
         }
     }
 }

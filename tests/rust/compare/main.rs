@@ -43,8 +43,8 @@ fn main() {
         ["record", file] => record::write(&site, file),
         ["replay", file] => replay::replay(file).fine(),
         ["check", file] => record::check(&site, file),
-        ["crossed", stride] => runs::crossed(&site, number(stride)).fine(),
-        ["singles", stride] => runs::singles(&site, number(stride)).fine(),
+        ["crossed", stride] => runs::fine(&runs::crossed(&site, number(stride))),
+        ["singles", stride] => runs::fine(&runs::singles(&site, number(stride))),
         ["doubles", stride] => runs::doubles(&site, number(stride)).fine(),
         _ => usage(),
     };
