@@ -27,7 +27,7 @@ pub fn all(site: &Site, count: u64, seed: u64) -> bool {
 
 /// A share of everything, or that part of it.
 pub fn share(site: &Site, part: u64) -> bool {
-    some(site, 11 * part, 15_000 / part, 1_000 / part, 1)
+    some(site, 13 * part, 15_000 / part, 1_000 / part, 1)
 }
 
 /// One of each `stride` exhaustive cases, and so many random ones without and with git. It ends with 'N passed, M failed'.
