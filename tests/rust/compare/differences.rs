@@ -15,19 +15,31 @@ pub enum Stage {
     End,
 }
 
-/// The number of the difference that explains why the sides differ at a stage. For 1 that is so only in a commit that was
-/// stopped: in others the difference is put right before (`mended`), and nothing may be left of it.
-pub fn explains(case: &Case, rust: &Answer, stage: Stage) -> Option<usize> {
-    if stage > Stage::Prepare && rust.prepared.as_ref().is_some_and(|prepared| stopped_in_mode_3(case, prepared)) {
-        return Some(1);
-    }
+/// Whether difference 1 explains why the sides differ at a stage. That is so only in a commit that was stopped: in others the
+/// difference is put right before (`mended`), and nothing may be left of it.
+pub fn is_stop_of_1(case: &Case, rust: &Answer, stage: Stage) -> bool {
+    stage > Stage::Prepare && rust.prepared.as_ref().is_some_and(|prepared| stopped_in_mode_3(case, prepared))
+}
+
+/// The number of the difference that lies in the names of a case: 2 or 9.
+pub fn of_names(case: &Case) -> Option<usize> {
     if case.edits.iter().any(|edit| found_by_partial_name(case, edit)) {
         return Some(2);
     }
-    if one_beneath_another(case) {
-        return Some(9);
+    one_beneath_another(case).then_some(9)
+}
+
+/// The case with names that meet neither 2 nor 9: each that has another beneath it, or that another is short for, ends with `-`
+/// more. All else is told by number, and a name stays of its kind and in its order, since no byte of a name is less than `-`.
+pub fn renamed(case: &Case) -> Case {
+    let (mut renamed, names) = (case.clone(), &case.store.names);
+    for name in &mut renamed.store.names {
+        if names.iter().any(|other| beneath(other, name) || longer_names(other).contains(name)) {
+            name.push('-');
+            assert!(!names.contains(name), "{name} is there already");
+        }
     }
-    None
+    renamed
 }
 
 /// 1, where the commit was stopped, or would be if it wrote what it loses.
@@ -66,12 +78,17 @@ fn found_by_partial_name(case: &Case, edit: &Edit) -> bool {
         let found = store.names.iter().position(|known| *known == full);
         found.is_some_and(|found| matches!(store.state.loose[found], Some(Loose::Value(Target::Link(_)))))
     };
-    let longer = ["refs/", "refs/tags/", "refs/heads/", "refs/remotes/"].map(|prefix| format!("{prefix}{short}"));
-    let remote_head = format!("refs/remotes/{short}/HEAD");
-    edit.deref
-        && !short.starts_with("refs/")
-        && store.state.loose[name].is_none()
-        && longer.into_iter().chain([remote_head]).any(is_link)
+    edit.deref && store.state.loose[name].is_none() && longer_names(short).into_iter().any(is_link)
+}
+
+/// The names that a name is short for. One beneath `refs/` is short for none.
+fn longer_names(short: &str) -> Vec<String> {
+    if short.starts_with("refs/") {
+        return Vec::new();
+    }
+    let mut names = ["refs/", "refs/tags/", "refs/heads/", "refs/remotes/"].map(|prefix| format!("{prefix}{short}")).to_vec();
+    names.push(format!("refs/remotes/{short}/HEAD"));
+    names
 }
 
 /// 9: of two names one lies beneath the other, and both would have to be there as files: values, logs or locks that are there, or
@@ -88,8 +105,11 @@ pub fn has_nested_names(case: &Case) -> bool {
 /// Whether of these names one lies beneath another.
 fn nested(case: &Case, among: &BTreeSet<usize>) -> bool {
     let names = &case.store.names;
-    let beneath = |lower: &str, upper: &str| lower.strip_prefix(upper).is_some_and(|rest| rest.starts_with('/'));
     among.iter().any(|upper| among.iter().any(|lower| beneath(&names[*lower], &names[*upper])))
+}
+
+fn beneath(lower: &str, upper: &str) -> bool {
+    lower.strip_prefix(upper).is_some_and(|rest| rest.starts_with('/'))
 }
 
 /// The names that have files, or that the edits come to.

@@ -28,9 +28,7 @@ pub enum Care {
 
 /// Compares the two sides on a case.
 pub fn judge(site: &Site, case: &Case, care: Care) -> (Answer, Verdict) {
-    let rust = original::answer(site, case);
-    let verdict = verdict(case, &rust, |rust| compare(case, rust, care));
-    (rust, verdict)
+    judge_oddly(site, case, Odd::default(), |rust| compare(case, rust, care))
 }
 
 /// Runs the Rust once for each stop, and compares what it really leaves.
@@ -38,8 +36,7 @@ pub fn judge_stops(site: &Site, case: &Case, writes: u64) -> Vec<(Case, Verdict)
     let End::Commit { committer, .. } = case.end else { return Vec::new() };
     let stopped = (0..=writes).map(|allowance| Case { end: End::Commit { committer, allowance }, ..case.clone() });
     let judged = stopped.map(|case| {
-        let rust = original::answer(site, &case);
-        let verdict = verdict(&case, &rust, |rust| compare_once(&case, rust).map(drop));
+        let (_, verdict) = judge_oddly(site, &case, Odd::default(), |rust| compare_once(&case, rust).map(drop));
         (case, verdict)
     });
     judged.collect()
@@ -47,8 +44,21 @@ pub fn judge_stops(site: &Site, case: &Case, writes: u64) -> Vec<(Case, Verdict)
 
 /// Lets others lock all that is free between prepare and the end, on both sides: that changes nothing but those locks.
 pub fn judge_locked(site: &Site, case: &Case) -> Verdict {
-    let rust = original::answer_oddly(site, case, Odd { locked_between: true, ..Odd::default() });
-    verdict(case, &rust, |rust| compare_locked(case, rust))
+    judge_oddly(site, case, Odd { locked_between: true, ..Odd::default() }, |rust| compare_locked(case, rust)).1
+}
+
+/// Runs the Rust, and compares. Where the sides differ and difference 2 or 9 is met, the Rust is run once more with names that do
+/// not meet it, and with that answer nothing may differ.
+fn judge_oddly(site: &Site, case: &Case, odd: Odd, compare: impl Fn(&Answer) -> Outcome) -> (Answer, Verdict) {
+    let rust = original::answer_oddly(site, case, odd);
+    let found = verdict(case, &rust, &compare);
+    let (Verdict::Differs(_), Some(number)) = (&found, differences::of_names(case)) else { return (rust, found) };
+    let renamed = original::answer_oddly(site, &differences::renamed(case), odd);
+    let verdict = match verdict(case, &renamed, &compare) {
+        Verdict::Same | Verdict::Known(_) => Verdict::Known(number),
+        differs => differs,
+    };
+    (rust, verdict)
 }
 
 fn compare_locked(case: &Case, rust: &Answer) -> Outcome {
@@ -75,9 +85,9 @@ fn verdict(case: &Case, rust: &Answer, compare: impl Fn(&Answer) -> Outcome) -> 
         Some(Err(left)) => left,
         None => found,
     };
-    match differences::explains(case, rust, stage) {
-        Some(number) => Verdict::Known(number),
-        None => Verdict::Differs(text),
+    match differences::is_stop_of_1(case, rust, stage) {
+        true => Verdict::Known(1),
+        false => Verdict::Differs(text),
     }
 }
 

@@ -4,6 +4,7 @@ mod answer;
 mod archive;
 mod build;
 mod case;
+mod crossed;
 mod dice;
 mod differences;
 mod doubles;
@@ -42,7 +43,8 @@ fn main() {
         ["record", file] => record::write(&site, file),
         ["replay", file] => replay::replay(file).fine(),
         ["check", file] => record::check(&site, file),
-        ["singles", stride] => runs::singles(&site, number(stride)).fine(),
+        ["crossed", stride] => runs::fine(&runs::crossed(&site, number(stride))),
+        ["singles", stride] => runs::fine(&runs::singles(&site, number(stride))),
         ["doubles", stride] => runs::doubles(&site, number(stride)).fine(),
         _ => usage(),
     };
@@ -52,9 +54,8 @@ fn main() {
 
 fn usage() -> ! {
     eprintln!("usage: compare all COUNT SEED | share PART | record FILE | check FILE | replay FILE");
-    eprintln!(
-        "       compare git COUNT SEED | differences | named | quick | singles STRIDE | doubles STRIDE | random COUNT SEED"
-    );
+    eprintln!("       compare git COUNT SEED | differences | named | quick | random COUNT SEED");
+    eprintln!("       compare crossed STRIDE | singles STRIDE | doubles STRIDE");
     std::process::exit(2)
 }
 

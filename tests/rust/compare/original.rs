@@ -28,6 +28,7 @@ pub fn answer(site: &Site, case: &Case) -> Answer {
     answer_oddly(site, case, Odd::default())
 }
 
+/// The same, run in such a way.
 pub fn answer_oddly(site: &Site, case: &Case, odd: Odd) -> Answer {
     if site.lay_out(&case.store).is_err() {
         return Answer::refused(Reply::new(answer::NO_LAYOUT, &[]));

@@ -1,11 +1,12 @@
 //! The runs: which cases are tried, and how many.
 
+use crate::case::Case;
+use crate::crossed;
 use crate::dice::Dice;
 use crate::doubles;
 use crate::git::{self, Git};
 use crate::judge::Care;
 use crate::named;
-use crate::product::Family;
 use crate::random;
 use crate::record;
 use crate::replay;
@@ -26,13 +27,14 @@ pub fn all(site: &Site, count: u64, seed: u64) -> bool {
 
 /// A share of everything, or that part of it.
 pub fn share(site: &Site, part: u64) -> bool {
-    some(site, 11 * part, 15_000 / part, 1_000 / part, 1)
+    some(site, 13 * part, 15_000 / part, 1_000 / part, 1)
 }
 
 /// One of each `stride` exhaustive cases, and so many random ones without and with git. It ends with 'N passed, M failed'.
 fn some(site: &Site, stride: u64, count: u64, with_git: u64, seed: u64) -> bool {
     let mut tallies = vec![differences(site), named(site)];
-    tallies.push(singles(site, stride));
+    tallies.extend(crossed(site, stride));
+    tallies.extend(singles(site, stride));
     tallies.push(doubles(site, stride));
     tallies.push(random(site, count, seed));
     tallies.extend(git(site, with_git, seed));
@@ -40,6 +42,11 @@ fn some(site: &Site, stride: u64, count: u64, with_git: u64, seed: u64) -> bool 
     let passed: u64 = tallies.iter().map(Tally::passed).sum();
     let failed: u64 = tallies.iter().map(Tally::failed).sum();
     println!("{passed} passed, {failed} failed");
+    fine(&tallies)
+}
+
+/// Whether all of them are fine.
+pub fn fine(tallies: &[Tally]) -> bool {
     tallies.iter().all(Tally::fine)
 }
 
@@ -52,12 +59,25 @@ fn recorded(site: &Site) -> Tally {
 
 /// As little as shows that a change to the Rust is noticed. It ends with the first part that notices it.
 pub fn quick(site: &Site) -> bool {
-    named(site).fine() && singles(site, 211).fine() && doubles(site, 211).fine() && random(site, 1_000, 1).fine()
+    named(site).fine() && fine(&singles(site, 211)) && doubles(site, 211).fine() && random(site, 1_000, 1).fine()
 }
 
-/// One of each `stride` cases with one edit.
-pub fn singles(site: &Site, stride: u64) -> Tally {
-    exhaustive(site, "one edit over two names", stride, singles::each)
+/// One of each `stride` cases with one edit, of the product of all lists: a tally for each pair of names.
+pub fn crossed(site: &Site, stride: u64) -> Vec<Tally> {
+    let of = |[edited, other]: [&str; 2]| {
+        let what = format!("one edit of {edited} beside {other}, crossed");
+        exhaustive(site, &what, stride, |hand_out| crossed::with([edited, other], hand_out))
+    };
+    crossed::NAMES.map(of).into()
+}
+
+/// One of each `stride` cases with one edit, of the families with more values: a tally for each pair of names.
+pub fn singles(site: &Site, stride: u64) -> Vec<Tally> {
+    let of = |[edited, other]: [&str; 2]| {
+        let what = format!("one edit of {edited} beside {other}, in families");
+        exhaustive(site, &what, stride, |hand_out| singles::with([edited, other], hand_out))
+    };
+    singles::NAMES.map(of).into()
 }
 
 /// One of each `stride` cases with two edits.
@@ -65,7 +85,7 @@ pub fn doubles(site: &Site, stride: u64) -> Tally {
     exhaustive(site, "two edits over three names", stride, doubles::each)
 }
 
-fn exhaustive(site: &Site, what: &str, stride: u64, each: Family) -> Tally {
+fn exhaustive(site: &Site, what: &str, stride: u64, each: impl Fn(&mut dyn FnMut(&Case))) -> Tally {
     let (mut tally, began, mut place) = (Tally::default(), Instant::now(), 0);
     each(&mut |case| {
         if place % stride == 0 {

@@ -1,10 +1,11 @@
-//! Every case of one edit over two names, in three families: values, locks, logs.
+//! Every case of one edit over two names, in three families that are not crossed with one another: values, locks, logs. Each has more
+//! values of its own than the product of all (`crossed`).
 
 use crate::case::{packable, Case, Edit, End, Expected, Line, Loose, State, Store, Target, ENOUGH};
 use crate::product::{expectations, pairs, Parts};
 
 /// The edited name and another one, which it may link to.
-const NAMES: [[&str; 2]; 4] = [
+pub const NAMES: [[&str; 2]; 4] = [
     ["HEAD", "refs/heads/aisle"],
     ["refs/heads/aisle", "refs/tags/v1"],
     ["refs/tags/v1", "HEAD"],
@@ -19,10 +20,15 @@ const ITSELF: Target = Target::Link(0);
 /// Hands out every case.
 pub fn each(hand_out: &mut dyn FnMut(&Case)) {
     for names in NAMES {
-        values(names, hand_out);
-        locks(names, hand_out);
-        logs(names, hand_out);
+        with(names, hand_out);
     }
+}
+
+/// Hands out every case with these names.
+pub fn with(names: [&str; 2], hand_out: &mut dyn FnMut(&Case)) {
+    values(names, hand_out);
+    locks(names, hand_out);
+    logs(names, hand_out);
 }
 
 /// Loose values of the edited name, and of the other one.
