@@ -1,124 +1,106 @@
-// The library's calls, as a foreign program makes them, on a region and a record of the right sizes. Each returns its number.
-pub type Region = [u8; 49549];
+// The library's calls, as a foreign program makes them, on a region and a record of the right sizes. What each returned, and the
+// places of its record, are in the notes afterwards.
+use asks::Call;
+use lent::Answer;
+use lent::List;
+use lent::Region;
+use notes::Note;
+use notes::Notes;
 
-pub type Answer = [u8; 128];
-
-pub fn start(region: &mut Region, setting: u64, answer: &mut Answer) -> u64 {
-    dehlbazin::dehlbazin_start(region, setting, answer) as u64
+fn change(region: &mut Region, call: u64, a: u64, b: u64, c: u64, answer: &mut Answer) -> u32 {
+    match call {
+        Call::START => dehlbazin::dehlbazin_start(region, a, answer),
+        Call::LOAD_LOOSE => dehlbazin::dehlbazin_load_loose(region, a, b, c, answer),
+        Call::LOAD_PACKED => dehlbazin::dehlbazin_load_packed(region, a, b, c, answer),
+        Call::LOCK_NAME => dehlbazin::dehlbazin_lock_name(region, a, answer),
+        Call::UNLOCK_NAME => dehlbazin::dehlbazin_unlock_name(region, a, answer),
+        Call::LOCK_PACKED => dehlbazin::dehlbazin_lock_packed(region, answer),
+        Call::UNLOCK_PACKED => dehlbazin::dehlbazin_unlock_packed(region, answer),
+        Call::COMMIT => dehlbazin::dehlbazin_commit(region, a, b, answer),
+        _ => dehlbazin::dehlbazin_rollback(region, answer),
+    }
 }
 
-pub fn add_name(region: &mut Region, name: &[u8], answer: &mut Answer) -> u64 {
-    dehlbazin::dehlbazin_add_name(region, name, answer) as u64
+fn read(region: &Region, call: u64, a: u64, b: u64, answer: &mut Answer) -> u32 {
+    match call {
+        Call::NAME_BYTES => dehlbazin::dehlbazin_name_bytes(region, a, answer),
+        Call::READ_NAME => dehlbazin::dehlbazin_read_name(region, a, answer),
+        Call::READ_LINE => dehlbazin::dehlbazin_read_line(region, a, b, answer),
+        _ => dehlbazin::dehlbazin_read_row(region, a, answer),
+    }
 }
 
-pub fn name_bytes(region: &Region, name: u64, answer: &mut Answer) -> u64 {
-    dehlbazin::dehlbazin_name_bytes(region, name, answer) as u64
-}
-
-pub fn load_loose(
-    region: &mut Region,
-    name: u64,
-    kind: u64,
-    number: u64,
-    answer: &mut Answer,
-) -> u64 {
-    dehlbazin::dehlbazin_load_loose(region, name, kind, number, answer) as u64
-}
-
-pub fn load_packed(
-    region: &mut Region,
-    name: u64,
-    kind: u64,
-    number: u64,
-    answer: &mut Answer,
-) -> u64 {
-    dehlbazin::dehlbazin_load_packed(region, name, kind, number, answer) as u64
-}
-
-pub fn lock_name(region: &mut Region, name: u64, answer: &mut Answer) -> u64 {
-    dehlbazin::dehlbazin_lock_name(region, name, answer) as u64
-}
-
-pub fn unlock_name(region: &mut Region, name: u64, answer: &mut Answer) -> u64 {
-    dehlbazin::dehlbazin_unlock_name(region, name, answer) as u64
-}
-
-pub fn lock_packed(region: &mut Region, answer: &mut Answer) -> u64 {
-    dehlbazin::dehlbazin_lock_packed(region, answer) as u64
-}
-
-pub fn unlock_packed(region: &mut Region, answer: &mut Answer) -> u64 {
-    dehlbazin::dehlbazin_unlock_packed(region, answer) as u64
-}
-
-pub fn prepare(region: &mut Region, list: &[u8], mode: u64, answer: &mut Answer) -> u64 {
-    dehlbazin::dehlbazin_prepare(region, list, mode, answer) as u64
-}
-
-pub fn commit(region: &mut Region, committer: u64, allowance: u64, answer: &mut Answer) -> u64 {
-    dehlbazin::dehlbazin_commit(region, committer, allowance, answer) as u64
-}
-
-pub fn rollback(region: &mut Region, answer: &mut Answer) -> u64 {
-    dehlbazin::dehlbazin_rollback(region, answer) as u64
-}
-
-pub fn read_name(region: &Region, name: u64, answer: &mut Answer) -> u64 {
-    dehlbazin::dehlbazin_read_name(region, name, answer) as u64
-}
-
-pub fn read_line(region: &Region, name: u64, place: u64, answer: &mut Answer) -> u64 {
-    dehlbazin::dehlbazin_read_line(region, name, place, answer) as u64
-}
-
-pub fn read_row(region: &Region, place: u64, answer: &mut Answer) -> u64 {
-    dehlbazin::dehlbazin_read_row(region, place, answer) as u64
-}
-
-// A place of the record; 0 where it has no such place.
-pub fn place(answer: &Answer, i: u64) -> u64 {
-    if i < 16 {
-        let at = i as usize * 8;
-        word::get_at(answer, at, 8)
+// A call that takes numbers alone.
+fn make(region: &mut Region, call: u64, a: u64, b: u64, c: u64, notes: &mut Notes) {
+    let mut answer = [0u8; 128];
+    let number = if call < Call::NAME_BYTES {
+        change(region, call, a, b, c, &mut answer)
     } else {
-        0
+        read(region, call, a, b, &mut answer)
+    };
+    lent::keep(number, &answer, notes);
+}
+
+// ---- names
+
+fn add(region: &mut Region, name: &[u8], notes: &mut Notes) {
+    let mut answer = [0u8; 128];
+    let number = dehlbazin::dehlbazin_add_name(region, name, &mut answer);
+    lent::keep(number, &answer, notes);
+}
+
+// The name's bytes are those of the line from one on; where the line has no such bytes, the name is empty.
+fn add_name(region: &mut Region, line: &[u8], from: usize, to: usize, notes: &mut Notes) {
+    if from <= to {
+        if to <= line.len() {
+            add(region, &line[from..to], notes);
+            return;
+        }
+    }
+    add(region, b"", notes);
+}
+
+// ---- edit lists
+
+fn prepare_part(region: &mut Region, list: &[u8], size: usize, mode: u64, notes: &mut Notes) {
+    let mut answer = [0u8; 128];
+    if size <= list.len() {
+        let first: usize = 0;
+        let number = dehlbazin::dehlbazin_prepare(region, &list[first..size], mode, &mut answer);
+        lent::keep(number, &answer, notes);
     }
 }
 
-// Where docs/LAYOUT.md has what no call tells. It is written down anew here, so that a wrong place in the library is seen.
-pub struct At {}
-
-impl At {
-    pub const LINE_COUNT: usize = 8;
-
-    pub const LOOSES: usize = 16653;
-
-    pub const LOOSE_WIDTH: usize = 9;
-
-    pub const PACKEDS: usize = 18957;
-
-    pub const PACKED_WIDTH: usize = 8;
-
-    pub const LINES: usize = 27021;
-
-    pub const LINE_WIDTH: usize = 22;
+fn prepare_in(region: &mut Region, list: &mut List, edits: u64, mode: u64, notes: &mut Notes) {
+    lent::put_list(list, edits, notes);
+    prepare_part(region, list, lent::size(edits), mode, notes);
 }
 
-// The number in some bytes of the region, where they lie in it; else 0.
-pub fn number_at(region: &Region, at: usize, width: usize) -> u64 {
-    if width <= 8 {
-        if at <= 49549 - width {
-            return word::get_at(region, at, width);
-        }
-    }
-    0
+// Prepares the first edits of the notes, and notes whether a byte of the region changed.
+fn prepare(region: &mut Region, before: &mut Region, edits: u64, mode: u64, notes: &mut Notes) {
+    let mut list = [0u8; 895];
+    word::copy(before, region);
+    prepare_in(region, &mut list, edits, mode, notes);
+    notes[Note::CHANGED] = if word::same(before, region) { 0 } else { 1 };
 }
 
-// Puts a number into bytes of the region, where they lie in it.
-pub fn put_number(region: &mut Region, at: usize, width: usize, x: u64) {
-    if width <= 8 {
-        if at <= 49549 - width {
-            word::put_at(region, at, width, x);
-        }
+fn prepare_fresh(region: &mut Region, edits: u64, mode: u64, notes: &mut Notes) {
+    let mut before = [0u8; 49549];
+    prepare(region, &mut before, edits, mode, notes);
+}
+
+// ---- any of them
+
+// Makes a call that was asked for.
+pub fn call(region: &mut Region, line: &[u8], ask: u64, notes: &mut Notes) {
+    let call = notes::of_ask(notes, ask, 0);
+    let a = notes::of_ask(notes, ask, 1);
+    let b = notes::of_ask(notes, ask, 2);
+    let c = notes::of_ask(notes, ask, 3);
+    match call {
+        Call::ADD_NAME => add_name(region, line, a as usize, b as usize, notes),
+        Call::PREPARE => prepare_fresh(region, a, b, notes),
+        Call::PUT => lent::put_number(region, a as usize, b as usize, c),
+        _ => make(region, call, a, b, c, notes),
     }
 }

@@ -4,11 +4,11 @@ use Rattle.replay.proofs.all.Statement.{statement}
 use Rattle.replay.proofs.all.Tie as tie
 
 abbrev Inv-loop : tie.InvT-loop
-Inv-loop input₀ line₀ region₀ before₀ answer₀ list₀ notes₀ turns₀ input line region before answer list notes turns =
+Inv-loop input₀ line₀ region₀ notes₀ turns₀ input line region notes turns =
     Unit {0}
 
 abbrev μ-loop : tie.MeasureT-loop
-μ-loop input₀ line₀ region₀ before₀ answer₀ list₀ notes₀ turns₀ input line region before answer list notes turns =
+μ-loop input₀ line₀ region₀ notes₀ turns₀ input line region notes turns =
     turns
 
 loop-holds : tie.Need-loop-holds Inv-loop μ-loop

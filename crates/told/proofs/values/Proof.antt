@@ -1,0 +1,45 @@
+-- The measure is how many names are left.
+use borrow.Author.Needs.{needs}
+use Rattle.told.proofs.values.Statement.{statement}
+use Rattle.told.proofs.values.Tie as tie
+
+abbrev Inv-loop : tie.InvT-loop
+Inv-loop region notes₀ left₀ notes left = Unit {0}
+
+abbrev μ-loop : tie.MeasureT-loop
+μ-loop region notes₀ left₀ notes left = left
+
+element-copy-out-left : tie.Need-element-copy-out-left Inv-loop μ-loop
+element-copy-out-left c = search needs
+
+loop-holds : tie.Need-loop-holds Inv-loop μ-loop
+loop-holds c = search needs
+
+sub-left : tie.Need-sub-left Inv-loop μ-loop
+sub-left c = search needs
+
+value-requires : tie.Need-value-requires Inv-loop μ-loop
+value-requires c κs = search needs
+
+loop-less : tie.Need-loop-less Inv-loop μ-loop
+loop-less c = search needs
+
+loop-again : tie.Need-loop-again Inv-loop μ-loop
+loop-again c = search needs
+
+returns : tie.Need-returns Inv-loop μ-loop
+returns c = search needs
+
+pub values-spec : {M : Type 1} → statement M
+values-spec =
+    tie.close
+    (tie.spec
+    Inv-loop
+    μ-loop
+    element-copy-out-left
+    loop-holds
+    sub-left
+    value-requires
+    loop-less
+    loop-again
+    returns)
