@@ -66,10 +66,10 @@ static void plan()
     const NameNumber aisle9 = store.add_name("refs/heads/aisle-9").value();
     const NameNumber head = store.add_name("HEAD").value();
     const Layout largest{UINT64_MAX}; // every 64-bit number but 0 is a layout
-    (void)store.load_loose(aisle7, Target::object(Layout{4102})).value();
-    (void)store.load_loose(aisle8, Target::object(largest)).value();
-    (void)store.load_loose(aisle9, Loose::none()).value();
-    (void)store.load_loose(head, Target::link(aisle7)).value();
+    store.load_loose(aisle7, Target::object(Layout{4102})).value();
+    store.load_loose(aisle8, Target::object(largest)).value();
+    store.load_loose(aisle9, Loose::none()).value();
+    store.load_loose(head, Target::link(aisle7)).value();
 
     print("aisle", "value");
     for (const char *name : {"HEAD", "refs/heads/aisle-7", "refs/heads/aisle-8", "refs/heads/aisle-9"})
