@@ -1,6 +1,7 @@
-/* The story of planner.cpp through the plain calls, in C11: a route planner names a few aisles, loads their layouts, and reads them
- * back by name. It moves the layout that HEAD leads to. Then it moves two at once, is stopped half way, reads what stands there, and
- * prints the log. */
+/* The story of planner.cpp through the plain calls, in C11: a route planner names a few aisles, loads their layouts, and reads
+ * them back by name. It moves the layout that HEAD leads to. Then it moves two at once, is stopped half way, reads what stands
+ * there, and prints the log.
+ * Run it with: bash tools/example c */
 #include "dehlbazin.h"
 
 #include <inttypes.h>

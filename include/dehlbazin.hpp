@@ -1,10 +1,11 @@
-// Dehlbazin for C++17: the calls of dehlbazin.h with types. Header only; it needs the archive, dehlbazin.h and the standard library.
+// Dehlbazin for C++17: the calls of dehlbazin.h with types. Header only; it needs the archive, dehlbazin.h and the standard
+// library.
 //
 // docs/SPEC.md says what the calls mean, docs/ABI.md shows a whole program.
 //
-// Each call gives a Result: its value, or the Refusal with its number and what comes with it. Nothing here throws but value(), which
-// throws Refused where there is no value. (Words are std::strings, whose memory can run out.) A commit that stopped on its way is no
-// refusal: it is an Outcome, with the number of writes that were made.
+// Each call gives a Result: its value, or the Refusal with its number and what comes with it. Nothing here throws but value(),
+// which throws Refused where there is no value. (Words are std::strings, whose memory can run out.) A commit that stopped on
+// its way is no refusal: it is an Outcome, with the number of writes that were made.
 //
 // A Store keeps no copy of anything: each call reads the region, and tests it whole first.
 //
@@ -294,7 +295,9 @@ inline constexpr Word words[] = {
     {"nothing_there", "there is no such log line or row"},
 };
 
-inline const Word &word_of(uint32_t number) { return words[number < std::size(words) ? number : 0]; }
+inline constexpr Word unknown = {"unknown", "a number that this header does not know"};
+
+inline const Word &word_of(uint32_t number) { return number < std::size(words) ? words[number] : unknown; }
 
 } // namespace detail
 
@@ -1036,7 +1039,8 @@ struct Speaker {
 
 } // namespace detail
 
-// "refs/heads/aisle: expected object 9, found a link to HEAD", or without a store "name 1: expected object 9, found a link to name 0".
+// "refs/heads/aisle: expected object 9, found a link to HEAD", or without a store "name 1: expected object 9, found a link to
+// name 0".
 inline std::string to_string(const Refusal &refusal) { return detail::Speaker{}.refusal(refusal); }
 inline std::string to_string(const Refusal &refusal, const View &store) { return detail::Speaker{&store}.refusal(refusal); }
 

@@ -1,5 +1,5 @@
-// The linker puts these in the place of the two calls that take bytes beside the region (--wrap). What is lent must lie apart, which no
-// call can test, and what came of it where it did not need not be seen.
+// The linker puts these in the place of the two calls that take bytes beside the region (--wrap). What is lent must lie apart,
+// which no call can test, and what came of it where it did not need not be seen.
 #include "check.h"
 #include "dehlbazin.h"
 

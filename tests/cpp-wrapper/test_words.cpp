@@ -87,6 +87,7 @@ static void test_names_of_numbers()
         numbers.insert(number);
     }
     check(numbers.size() == 23 && *numbers.rbegin() == 22, "all numbers from 0 to 22");
+    says(Refusal(Reason(23)).reason_name(), "unknown"); // of a later archive
     says(Refusal(Reason::too_many_rows).reason_name(), "too_many_rows");
     says(to_string(Refusal(Reason::too_many_rows)), "the edits come to more than 160 rows");
 }
