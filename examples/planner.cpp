@@ -1,194 +1,105 @@
 // A route planner's use of Dehlbazin: it names a few aisles, loads their layouts, and reads them back by name. It moves the layout
 // that HEAD leads to. Then it moves two at once, is stopped half way, reads what stands there, and prints the log.
 // Run it with: bash tools/example
-#include "dehlbazin.h"
+#include "dehlbazin.hpp"
 
-#include <array>
 #include <cstdio>
-#include <cstdlib>
-#include <string>
-#include <vector>
 
-static std::array<uint8_t, DEHLBAZIN_REGION_SIZE> region; // the store: ours to lend, to copy, to keep in a file
-static std::array<uint8_t, DEHLBAZIN_ANSWER_SIZE> answer;
+using namespace dehlbazin;
+using Layout = ObjectNumber;
 
-// Every call's number is looked at. One that was not foreseen ends the program: a route over a guessed layout helps nobody.
-static void must_be_done(uint32_t number, const std::string &what)
+static Region region; // the store: ours to lend, to copy, to keep in a file
+
+static std::string in_words(const Store &store, const std::optional<Target> &value)
 {
-    if (number == DEHLBAZIN_DONE)
-        return;
-    std::fprintf(stderr, "%s was refused with number %u\n", what.c_str(), unsigned(number));
-    std::exit(1);
+    if (!value)
+        return "none";
+    if (value->is_link())
+        return "as " + std::string(store.name_bytes(*value->link()).value());
+    return "layout " + std::to_string(value->number());
 }
 
-static uint64_t place(size_t i) { return dehlbazin_place(answer.data(), i); }
-
-// The number of a name: a new one, or the one that it has.
-static uint64_t number_of(const std::string &name)
+static void print(std::string_view name, const std::string &text)
 {
-    const uint8_t *bytes = reinterpret_cast<const uint8_t *>(name.data());
-    must_be_done(dehlbazin_add_name(region.data(), region.size(), bytes, name.size(), answer.data(), answer.size()),
-                 "the name " + name);
-    return place(DEHLBAZIN_ADD_NAME_NUMBER);
+    std::printf("%-20.*s %s\n", int(name.size()), name.data(), text.c_str());
 }
 
-static void load(const std::string &name, uint64_t kind, uint64_t number)
+static void print_value(Store &store, std::string_view name)
 {
-    uint64_t to = number_of(name);
-    must_be_done(dehlbazin_load_loose(region.data(), region.size(), to, kind, number, answer.data(), answer.size()),
-                 "the layout of " + name);
-}
-
-// The bytes of a name stand in the region itself, so they are copied out of it.
-static std::string name_of(uint64_t number)
-{
-    must_be_done(dehlbazin_name_bytes(region.data(), region.size(), number, answer.data(), answer.size()), "a name's bytes");
-    const uint8_t *bytes = region.data() + place(DEHLBAZIN_NAME_BYTES_OFFSET);
-    return std::string(bytes, bytes + place(DEHLBAZIN_NAME_BYTES_LENGTH));
-}
-
-static std::string in_words(uint64_t kind, uint64_t number)
-{
-    if (kind == DEHLBAZIN_KIND_OBJECT)
-        return "layout " + std::to_string(number);
-    if (kind == DEHLBAZIN_KIND_LINK)
-        return "as " + name_of(number);
-    return "none";
-}
-
-static void print_value(const std::string &name)
-{
-    uint64_t number = number_of(name);
-    must_be_done(dehlbazin_read_name(region.data(), region.size(), number, answer.data(), answer.size()), "reading " + name);
-    std::string value = in_words(place(DEHLBAZIN_READ_NAME_KIND), place(DEHLBAZIN_READ_NAME_NUMBER));
-    std::printf("%-20s %s\n", name.c_str(), value.c_str());
-}
-
-// Numbers in an edit list are big-endian.
-static void put(uint8_t *at, uint64_t number, size_t bytes)
-{
-    for (; bytes > 0; number >>= 8)
-        at[--bytes] = uint8_t(number);
+    print(name, in_words(store, store.read_name(store.add_name(name).value()).value()));
 }
 
 // A move: through the links of a name, from one layout to another, and not if something else than the first is there.
-struct Move {
-    std::string name;
-    uint64_t from, to;
-};
-
-static void write_edit(uint8_t *edit, const Move &move)
+static Update move(NameNumber name, Layout from, Layout to)
 {
-    edit[DEHLBAZIN_EDIT_AT_KIND] = DEHLBAZIN_ROW_UPDATE;
-    edit[DEHLBAZIN_EDIT_AT_DEREF] = 1;
-    edit[DEHLBAZIN_EDIT_AT_EXPECTED] = DEHLBAZIN_EXPECTED_MUST_EXIST_AND_MATCH;
-    edit[DEHLBAZIN_EDIT_AT_EXPECTED_KIND] = DEHLBAZIN_KIND_OBJECT;
-    put(edit + DEHLBAZIN_EDIT_AT_EXPECTED_NUMBER, move.from, 8);
-    edit[DEHLBAZIN_EDIT_AT_NEW_KIND] = DEHLBAZIN_KIND_OBJECT;
-    put(edit + DEHLBAZIN_EDIT_AT_NEW_NUMBER, move.to, 8);
-    put(edit + DEHLBAZIN_EDIT_AT_NAME, number_of(move.name), 2); // what number_of gives fits
+    return Update(name, Target::object(to)).deref().expecting(Expected::must_exist_and_match(Target::object(from)));
 }
 
-// The edit list of some moves, at most 32. What an edit does not use stays 0.
-static std::vector<uint8_t> list_of(const std::vector<Move> &moves)
+// All moves are prepared or none. Shows the rows that they became, then makes the writes, or as many of them as are allowed. If
+// something were thrown on the way, the transaction would be rolled back, and its locks would be free.
+static void make(Store &store, std::initializer_list<Edit> moves, Allowance allowance)
 {
-    std::vector<uint8_t> list(DEHLBAZIN_LIST_HEADER_SIZE + DEHLBAZIN_LIST_EDIT_SIZE * moves.size());
-    list[DEHLBAZIN_LIST_AT_VERSION] = DEHLBAZIN_LIST_VERSION;
-    put(&list[DEHLBAZIN_LIST_AT_LENGTH], list.size() - DEHLBAZIN_LIST_AT_COUNT, 2);
-    list[DEHLBAZIN_LIST_AT_COUNT] = uint8_t(moves.size());
-    for (size_t i = 0; i < moves.size(); i++)
-        write_edit(&list[DEHLBAZIN_LIST_HEADER_SIZE + DEHLBAZIN_LIST_EDIT_SIZE * i], moves[i]);
-    return list;
-}
-
-// What a row of the prepared transaction found, and what it is to write.
-static void print_row(uint64_t row)
-{
-    must_be_done(dehlbazin_read_row(region.data(), region.size(), row, answer.data(), answer.size()), "a row");
-    const auto record = answer; // the calls below fill the record again
-    auto field = [&](size_t i) { return dehlbazin_place(record.data(), i); };
-    bool log_only = field(DEHLBAZIN_READ_ROW_LOG) == DEHLBAZIN_LOG_ONLY;
-    std::string name = name_of(field(DEHLBAZIN_READ_ROW_NAME));
-    std::string there = in_words(field(DEHLBAZIN_READ_ROW_EXPECTED_KIND), field(DEHLBAZIN_READ_ROW_EXPECTED_NUMBER));
-    std::string next = in_words(field(DEHLBAZIN_READ_ROW_NEW_KIND), field(DEHLBAZIN_READ_ROW_NEW_NUMBER));
-    std::printf("%-20s %s, %s %s\n", name.c_str(), there.c_str(), log_only ? "logs" : "becomes", next.c_str());
-}
-
-// All moves are prepared or none, and the locks that they keep are ours until the commit. Shows the rows that they became.
-static void prepare(const std::vector<Move> &moves)
-{
-    const std::vector<uint8_t> list = list_of(moves);
-    const uint64_t mode = DEHLBAZIN_MODE_DELETIONS;
-    must_be_done(
-        dehlbazin_prepare(region.data(), region.size(), list.data(), list.size(), mode, answer.data(), answer.size()), "the move");
-    uint64_t rows = place(DEHLBAZIN_PREPARE_ROWS);
-    std::printf("prepared %u rows\n", unsigned(rows));
-    for (uint64_t row = 0; row < rows; row++)
-        print_row(row);
-}
-
-// Makes the writes, or as many of them as are allowed. Either way the transaction is over then, and its locks are free.
-static void commit(uint64_t committer, uint64_t allowance)
-{
-    uint32_t number =
-        dehlbazin_commit(region.data(), region.size(), committer, allowance, answer.data(), answer.size());
-    if (number == DEHLBAZIN_USED_UP) {
-        std::printf("stopped after %u writes\n", unsigned(place(DEHLBAZIN_USED_UP_WRITES)));
-        return;
-    }
-    must_be_done(number, "the commit");
-    std::printf("committed with %u writes\n", unsigned(place(DEHLBAZIN_COMMIT_WRITES)));
+    Transaction transaction = store.prepare(EditList::of(moves).value()).value();
+    std::printf("prepared %u rows\n", unsigned(transaction.row_count()));
+    for (const Row &row : store.rows())
+        print(store.name_bytes(row.name).value(),
+              in_words(store, row.expected.target()) + (row.log_only ? ", logs " : ", becomes ") + in_words(store, row.next));
+    const Committer planner{12};
+    const Outcome outcome = transaction.commit(planner, allowance).value();
+    std::printf("%s %u writes\n", outcome.all_written() ? "committed with" : "stopped after", unsigned(outcome.writes));
 }
 
 // The lines of a name's log, the oldest first.
-static void print_log(const std::string &name)
+static void print_log(Store &store, std::string_view name)
 {
-    uint64_t of = number_of(name);
-    for (uint64_t line = 0;; line++) {
-        uint32_t number = dehlbazin_read_line(region.data(), region.size(), of, line, answer.data(), answer.size());
-        if (number == DEHLBAZIN_NOTHING_THERE)
-            return;
-        must_be_done(number, "a line of " + name);
-        std::string before = std::to_string(place(DEHLBAZIN_READ_LINE_PREVIOUS));
-        std::string after = std::to_string(place(DEHLBAZIN_READ_LINE_NEW));
-        std::printf("%-20s %s to %s, by %u\n", name.c_str(), before.c_str(), after.c_str(),
-                    unsigned(place(DEHLBAZIN_READ_LINE_COMMITTER)));
-    }
+    for (const Line &line : store.lines(store.add_name(name).value()))
+        print(name, std::to_string(line.previous ? line.previous->number() : 0) + " to " + std::to_string(line.next.number()) +
+                        ", by " + std::to_string(line.committer.number()));
+}
+
+// A refusal that was not foreseen is thrown by value(), and ends the program: a route over a guessed layout helps nobody.
+static void plan()
+{
+    Store store = Store::start(region, Setting::normal).value();
+    const NameNumber aisle7 = store.add_name("refs/heads/aisle-7").value();
+    const NameNumber aisle8 = store.add_name("refs/heads/aisle-8").value();
+    const NameNumber aisle9 = store.add_name("refs/heads/aisle-9").value();
+    const NameNumber head = store.add_name("HEAD").value();
+    const Layout largest{UINT64_MAX}; // every 64-bit number but 0 is a layout
+    store.load_loose(aisle7, Target::object(Layout{4102})).value();
+    store.load_loose(aisle8, Target::object(largest)).value();
+    store.load_loose(aisle9, Loose::none()).value();
+    store.load_loose(head, Target::link(aisle7)).value();
+
+    print("aisle", "value");
+    for (const char *name : {"HEAD", "refs/heads/aisle-7", "refs/heads/aisle-8", "refs/heads/aisle-9"})
+        print_value(store, name);
+
+    make(store, {move(head, Layout{4102}, Layout{4103})}, every_write);
+    print_value(store, "refs/heads/aisle-7");
+
+    // Three writes are too few for this. Each aisle reads its old layout or its new one then, never a third.
+    make(store, {move(head, Layout{4103}, Layout{4104}), move(aisle8, largest, Layout{4104})}, Allowance{3});
+    print_value(store, "refs/heads/aisle-7");
+    print_value(store, "refs/heads/aisle-8");
+
+    // A line is written before its value, so where a commit was stopped the log can be ahead of the aisles.
+    print("log of", "move");
+    for (const char *name : {"HEAD", "refs/heads/aisle-7", "refs/heads/aisle-8"})
+        print_log(store, name);
+
+    // A number that was mixed up on the way is refused whole. It is not taken for name 0.
+    const auto mixed_up = store.read_name(NameNumber{65536});
+    if (const Refusal *refusal = mixed_up.refusal())
+        std::printf("name %u is refused with number %u\n", unsigned(refusal->name()->number()), unsigned(refusal->number()));
 }
 
 int main()
 {
-    must_be_done(dehlbazin_start(region.data(), region.size(), DEHLBAZIN_SETTING_NORMAL, answer.data(), answer.size()),
-                 "start");
-    load("refs/heads/aisle-7", DEHLBAZIN_KIND_OBJECT, 4102);
-    load("refs/heads/aisle-8", DEHLBAZIN_KIND_OBJECT, 18446744073709551615u); // every 64-bit number but 0 is a layout
-    load("refs/heads/aisle-9", DEHLBAZIN_KIND_NONE, 0);
-    load("HEAD", DEHLBAZIN_KIND_LINK, number_of("refs/heads/aisle-7"));
-
-    std::printf("%-20s %s\n", "aisle", "value");
-    for (const char *name : {"HEAD", "refs/heads/aisle-7", "refs/heads/aisle-8", "refs/heads/aisle-9"})
-        print_value(name);
-
-    const uint64_t planner = 12, every_write = ~uint64_t(0);
-    prepare({{"HEAD", 4102, 4103}});
-    commit(planner, every_write);
-    print_value("refs/heads/aisle-7");
-
-    // Three writes are too few for this. Each aisle reads its old layout or its new one then, never a third.
-    prepare({{"HEAD", 4103, 4104}, {"refs/heads/aisle-8", 18446744073709551615u, 4104}});
-    commit(planner, 3);
-    print_value("refs/heads/aisle-7");
-    print_value("refs/heads/aisle-8");
-
-    // A line is written before its value, so where a commit was stopped the log can be ahead of the aisles.
-    std::printf("%-20s %s\n", "log of", "move");
-    for (const char *name : {"HEAD", "refs/heads/aisle-7", "refs/heads/aisle-8"})
-        print_log(name);
-
-    // A number that was mixed up on the way is refused whole. It is not taken for name 0.
-    uint32_t number = dehlbazin_read_name(region.data(), region.size(), 65536, answer.data(), answer.size());
-    if (number != DEHLBAZIN_NOT_REGISTERED || place(DEHLBAZIN_NOT_REGISTERED_NUMBER) != 65536)
+    try {
+        plan();
+    } catch (const Refused &refused) {
+        std::fprintf(stderr, "%s\n", refused.what());
         return 1;
-    std::printf("name 65536 is refused with number %u\n", unsigned(number));
-    return 0;
+    }
 }

@@ -1,0 +1,1063 @@
+// Dehlbazin for C++17: the calls of dehlbazin.h with types. Header only; it needs the archive, dehlbazin.h and the standard
+// library.
+//
+// docs/SPEC.md says what the calls mean, docs/ABI.md shows a whole program.
+//
+// Each call gives a Result: its value, or the Refusal with its number and what comes with it. Nothing here throws but value(),
+// which throws Refused where there is no value. (Words are std::strings, whose memory can run out.) A commit that stopped on
+// its way is no refusal: it is an Outcome, with the number of writes that were made.
+//
+// A Store keeps no copy of anything: each call reads the region, and tests it whole first.
+//
+// What the compiler or this header sees to, beyond what dehlbazin.h says:
+//   - the number of a name and the number of an object are two types, and neither is taken for the other;
+//   - region, name, list and record never overlap: the bytes of a name are copied before they are passed on, and lists and records
+//     are objects of their own;
+//   - the number of a name is tested before it is put into the 2 bytes that an edit has for it.
+// What the caller still must see to:
+//   - that the region lives as long as the Store or View over it, and the Store as long as it is used;
+//   - that one region has one Store at a time, and that calls on it come one after the other.
+#ifndef DEHLBAZIN_HPP
+#define DEHLBAZIN_HPP
+
+#if __cplusplus < 201703L && (!defined(_MSVC_LANG) || _MSVC_LANG < 201703L)
+#error "dehlbazin.hpp needs C++17"
+#endif
+
+#include "dehlbazin.h"
+
+#include <array>
+#include <cstddef>
+#include <cstdint>
+#include <cstdlib>
+#include <cstring>
+#include <initializer_list>
+#include <iterator>
+#include <optional>
+#include <stdexcept>
+#include <string>
+#include <string_view>
+#include <type_traits>
+#include <utility>
+#include <variant>
+
+namespace dehlbazin {
+
+// ---- numbers, each kind a type of its own
+
+// A number of one kind. It has all 64 bits, so that one that is too large is refused by the call and not shortened before it. In
+// braces, as NameNumber{i}, the compiler refuses a negative constant and warns of a signed variable.
+template <typename Kind> class Number {
+    template <typename Other>
+    static constexpr bool is_no_count = std::is_floating_point_v<Other> || std::is_same_v<Other, bool> ||
+                                        (std::is_integral_v<Other> && sizeof(Other) > sizeof(uint64_t));
+
+public:
+    explicit constexpr Number(uint64_t number) : number_(number) {}
+    // Nothing that a conversion would change: no fraction, and nothing wider than 64 bits. And no truth value.
+    template <typename Other, typename = std::enable_if_t<is_no_count<Other>>> Number(Other) = delete;
+
+    constexpr uint64_t number() const { return number_; }
+
+    friend constexpr bool operator==(Number x, Number y) { return x.number_ == y.number_; }
+    friend constexpr bool operator!=(Number x, Number y) { return x.number_ != y.number_; }
+    friend constexpr bool operator<(Number x, Number y) { return x.number_ < y.number_; }
+
+private:
+    uint64_t number_;
+};
+
+using NameNumber = Number<struct OfName>;     // from 0, in the order in which the names were added
+using ObjectNumber = Number<struct OfObject>; // from 1; 0 is the null id, which no call takes for a target
+using Committer = Number<struct OfCommitter>; // 1 to 65,535, or nobody
+using Message = Number<struct OfMessage>;     // 0 to 65,535
+using Allowance = Number<struct OfAllowance>; // how many writes a commit may make
+
+inline constexpr Committer nobody{0};
+inline constexpr Allowance every_write{UINT64_MAX};
+
+// ---- what the calls take and give
+
+// A region of the right size. Bytes from elsewhere, as mapped from a file, are passed as a pointer and a size.
+using Region = std::array<uint8_t, DEHLBAZIN_REGION_SIZE>;
+
+enum class Setting : uint64_t {
+    never = DEHLBAZIN_SETTING_NEVER,
+    normal = DEHLBAZIN_SETTING_NORMAL,
+    always = DEHLBAZIN_SETTING_ALWAYS,
+};
+
+enum class Mode : uint64_t {
+    deletions = DEHLBAZIN_MODE_DELETIONS,
+    updates = DEHLBAZIN_MODE_UPDATES,
+    updates_remove_loose = DEHLBAZIN_MODE_UPDATES_REMOVE_LOOSE,
+};
+
+// An object, or a link to a name. Which of the two is said, never guessed from a number.
+class Target {
+public:
+    static constexpr Target object(ObjectNumber object) { return Target(DEHLBAZIN_KIND_OBJECT, object.number()); }
+    static constexpr Target link(NameNumber to) { return Target(DEHLBAZIN_KIND_LINK, to.number()); }
+
+    constexpr bool is_link() const { return kind_ == DEHLBAZIN_KIND_LINK; }
+    // The object, or none of a link.
+    constexpr std::optional<ObjectNumber> object() const
+    {
+        return is_link() ? std::nullopt : std::optional<ObjectNumber>(ObjectNumber(number_));
+    }
+    // The name that the link leads to, or none of an object.
+    constexpr std::optional<NameNumber> link() const
+    {
+        return is_link() ? std::optional<NameNumber>(NameNumber(number_)) : std::nullopt;
+    }
+
+    // As dehlbazin.h has it: DEHLBAZIN_KIND_.. and the number beside it.
+    constexpr uint64_t kind() const { return kind_; }
+    constexpr uint64_t number() const { return number_; }
+
+    friend constexpr bool operator==(const Target &x, const Target &y) { return x.kind_ == y.kind_ && x.number_ == y.number_; }
+    friend constexpr bool operator!=(const Target &x, const Target &y) { return !(x == y); }
+
+private:
+    constexpr Target(uint64_t kind, uint64_t number) : kind_(kind), number_(number) {}
+
+    uint64_t kind_, number_;
+};
+
+// What may be loaded as a loose value: a target, none, or broken.
+class Loose {
+public:
+    constexpr Loose(const Target &target) : kind_(target.kind()), number_(target.number()) {}
+    static constexpr Loose none() { return Loose(DEHLBAZIN_KIND_NONE); }
+    static constexpr Loose broken() { return Loose(DEHLBAZIN_KIND_BROKEN); }
+
+    constexpr uint64_t kind() const { return kind_; }
+    constexpr uint64_t number() const { return number_; }
+
+private:
+    explicit constexpr Loose(uint64_t kind) : kind_(kind), number_(0) {}
+
+    uint64_t kind_, number_;
+};
+
+// What an edit expects to find, and what a row found.
+class Expected {
+public:
+    static constexpr Expected any() { return Expected(DEHLBAZIN_EXPECTED_ANY); }
+    static constexpr Expected must_exist() { return Expected(DEHLBAZIN_EXPECTED_MUST_EXIST); }
+    static constexpr Expected must_not_exist() { return Expected(DEHLBAZIN_EXPECTED_MUST_NOT_EXIST); }
+    static constexpr Expected must_exist_and_match(const Target &target)
+    {
+        return Expected(DEHLBAZIN_EXPECTED_MUST_EXIST_AND_MATCH, target);
+    }
+    static constexpr Expected existing_must_match(const Target &target)
+    {
+        return Expected(DEHLBAZIN_EXPECTED_EXISTING_MUST_MATCH, target);
+    }
+
+    constexpr uint64_t kind() const { return kind_; } // DEHLBAZIN_EXPECTED_..
+    constexpr const std::optional<Target> &target() const { return target_; }
+
+    friend constexpr bool operator==(const Expected &x, const Expected &y)
+    {
+        return x.kind_ == y.kind_ && x.target_ == y.target_;
+    }
+    friend constexpr bool operator!=(const Expected &x, const Expected &y) { return !(x == y); }
+
+private:
+    friend class View;
+    explicit constexpr Expected(uint64_t kind, const std::optional<Target> &target = std::nullopt)
+        : kind_(kind), target_(target)
+    {
+    }
+
+    uint64_t kind_;
+    std::optional<Target> target_;
+};
+
+// A name with its bytes, which stand in the region itself: they are good until the next start, and as long as the region.
+struct Name {
+    NameNumber number;
+    std::string_view bytes;
+};
+
+// A line of a name's log.
+struct Line {
+    std::optional<ObjectNumber> previous; // none where nothing was there
+    ObjectNumber next;
+    Committer committer;
+    Message message;
+};
+
+// A row of the prepared transaction.
+struct Row {
+    NameNumber name;
+    bool is_update, log_only, force;
+    Message message;
+    Expected expected;
+    std::optional<Target> next;     // none of a delete
+    std::optional<uint64_t> parent; // the place of the row that it came from, which is an earlier one
+    std::optional<ObjectNumber> leaf_previous;
+};
+
+// How a commit ended that was not refused. Where it was stopped, what it wrote until then stays.
+struct Outcome {
+    enum class End : uint32_t {
+        all_written = DEHLBAZIN_DONE,
+        no_committer = DEHLBAZIN_NO_COMMITTER, // stopped before a log line
+        used_up = DEHLBAZIN_USED_UP,           // stopped with the allowance used up
+    };
+
+    End end;
+    uint64_t writes; // how many were made
+
+    bool all_written() const { return end == End::all_written; }
+    uint32_t number() const { return uint32_t(end); }
+};
+
+// ---- refusals
+
+// Why a call is refused. The two numbers that are missing here, 16 and 17, are those of an Outcome.
+enum class Reason : uint32_t {
+    bad_region = DEHLBAZIN_BAD_REGION,
+    malformed = DEHLBAZIN_MALFORMED,
+    not_registered = DEHLBAZIN_NOT_REGISTERED,
+    reference_cycle = DEHLBAZIN_REFERENCE_CYCLE,
+    too_many_rows = DEHLBAZIN_TOO_MANY_ROWS,
+    multiple_edits = DEHLBAZIN_MULTIPLE_EDITS,
+    packed_transaction_acquire = DEHLBAZIN_PACKED_TRANSACTION_ACQUIRE,
+    lock_acquire = DEHLBAZIN_LOCK_ACQUIRE,
+    delete_reference_must_exist = DEHLBAZIN_DELETE_REFERENCE_MUST_EXIST,
+    must_not_exist = DEHLBAZIN_MUST_NOT_EXIST,
+    must_exist = DEHLBAZIN_MUST_EXIST,
+    reference_out_of_date = DEHLBAZIN_REFERENCE_OUT_OF_DATE,
+    delete_must_not_exist = DEHLBAZIN_DELETE_MUST_NOT_EXIST,
+    log_full = DEHLBAZIN_LOG_FULL,
+    wrong_state = DEHLBAZIN_WRONG_STATE,
+    bad_name = DEHLBAZIN_BAD_NAME,
+    names_full = DEHLBAZIN_NAMES_FULL,
+    wrong_lock = DEHLBAZIN_WRONG_LOCK,
+    bad_load = DEHLBAZIN_BAD_LOAD,
+    nothing_there = DEHLBAZIN_NOTHING_THERE,
+};
+
+namespace detail {
+
+// What a call answered: its number and its record.
+struct Answer {
+    uint32_t number = 0;
+    std::array<uint8_t, DEHLBAZIN_ANSWER_SIZE> record{};
+
+    uint64_t place(size_t i) const { return dehlbazin_place(record.data(), i); }
+    // The target in two places, its kind and its number; none where the kind is none.
+    std::optional<Target> target(size_t i) const
+    {
+        if (place(i) == DEHLBAZIN_KIND_OBJECT)
+            return Target::object(ObjectNumber(place(i + 1)));
+        if (place(i) == DEHLBAZIN_KIND_LINK)
+            return Target::link(NameNumber(place(i + 1)));
+        return std::nullopt;
+    }
+    std::optional<ObjectNumber> object(size_t i) const
+    {
+        return place(i) == 0 ? std::nullopt : std::optional<ObjectNumber>(ObjectNumber(place(i)));
+    }
+};
+
+// A reason's name, and what it says of the name that comes with it, or of nothing in particular.
+struct Word {
+    const char *name, *says;
+};
+
+inline constexpr Word words[] = {
+    {"done", "done"},
+    {"bad_region", "the region holds no good store"},
+    {"malformed", "the edit list, mode, setting or committer is malformed"},
+    {"not_registered", "no name has this number"},
+    {"reference_cycle", "links are still followed in a fifth round"},
+    {"too_many_rows", "the edits come to more than 160 rows"},
+    {"multiple_edits", "two rows have this name"},
+    {"packed_transaction_acquire", "the lock of the packed table is foreign"},
+    {"lock_acquire", "its lock is foreign, or that of a name that its links lead to"},
+    {"delete_reference_must_exist", "to be deleted, but nothing is there"},
+    {"must_not_exist", "expected nothing"},
+    {"must_exist", "expected"},
+    {"reference_out_of_date", "expected"},
+    {"delete_must_not_exist", "a delete that expects nothing"},
+    {"log_full", "the log has no room for the lines that are due"},
+    {"wrong_state", "a transaction is prepared and must not be, or none is and must be"},
+    {"no_committer", "a log line has no committer"},
+    {"used_up", "the allowance is used up"},
+    {"bad_name", "the bytes are no name"},
+    {"names_full", "256 names are held"},
+    {"wrong_lock", "the lock to be placed is not free, or the lock to be lifted is not foreign"},
+    {"bad_load", "this value cannot be loaded there"},
+    {"nothing_there", "there is no such log line or row"},
+};
+
+inline constexpr Word unknown = {"unknown", "a number that this header does not know"};
+
+inline const Word &word_of(uint32_t number) { return number < std::size(words) ? words[number] : unknown; }
+
+} // namespace detail
+
+// A refusal: its reason, and what comes with it. The region is as it was.
+class Refusal {
+public:
+    explicit Refusal(Reason reason) { answer_.number = uint32_t(reason); }
+    // The refusal of a number that is no name's.
+    explicit Refusal(NameNumber name) : Refusal(Reason::not_registered)
+    {
+        for (size_t i = 0; i < 8; i++)
+            answer_.record[8 * DEHLBAZIN_NOT_REGISTERED_NUMBER + i] = uint8_t(name.number() >> (56 - 8 * i));
+    }
+    explicit Refusal(const detail::Answer &answer) : answer_(answer) {}
+
+    Reason reason() const { return Reason(answer_.number); }
+    uint32_t number() const { return answer_.number; }
+    const char *reason_name() const { return detail::word_of(answer_.number).name; }
+
+    // The name that it is about: of 3 the number that is no name's, of 8 the name of the edit that led to the lock. None where
+    // a refusal is about no name.
+    std::optional<NameNumber> name() const
+    {
+        switch (reason()) {
+        case Reason::not_registered:
+        case Reason::multiple_edits:
+        case Reason::lock_acquire:
+        case Reason::delete_reference_must_exist:
+        case Reason::must_not_exist:
+        case Reason::must_exist:
+        case Reason::reference_out_of_date:
+        case Reason::delete_must_not_exist:
+            return NameNumber(place(0));
+        default:
+            return std::nullopt;
+        }
+    }
+
+    // What was expected, of 11 and 12. None where it was nothing (10) or any value (11, which has object 0 then).
+    std::optional<Target> expected() const
+    {
+        if (reason() == Reason::reference_out_of_date)
+            return answer_.target(DEHLBAZIN_REFERENCE_OUT_OF_DATE_EXPECTED_KIND);
+        if (reason() != Reason::must_exist)
+            return std::nullopt;
+        const std::optional<Target> expected = answer_.target(DEHLBAZIN_MUST_EXIST_EXPECTED_KIND);
+        return expected == Target::object(ObjectNumber(0)) ? std::nullopt : expected;
+    }
+
+    // What is there, of 10 and 12.
+    std::optional<Target> actual() const
+    {
+        if (reason() == Reason::must_not_exist)
+            return answer_.target(DEHLBAZIN_MUST_NOT_EXIST_ACTUAL_KIND);
+        if (reason() == Reason::reference_out_of_date)
+            return answer_.target(DEHLBAZIN_REFERENCE_OUT_OF_DATE_ACTUAL_KIND);
+        return std::nullopt;
+    }
+
+    // What the update would write, of 10.
+    std::optional<Target> next() const
+    {
+        return reason() == Reason::must_not_exist ? answer_.target(DEHLBAZIN_MUST_NOT_EXIST_NEW_KIND) : std::nullopt;
+    }
+
+    // As dehlbazin.h has it: place i of the answer record.
+    uint64_t place(size_t i) const { return answer_.place(i); }
+
+private:
+    detail::Answer answer_;
+};
+
+std::string to_string(const Refusal &refusal);
+
+// What value() throws where there is no value.
+class Refused : public std::runtime_error {
+public:
+    explicit Refused(const Refusal &refusal)
+        : std::runtime_error("refused with number " + std::to_string(refusal.number()) + ": " + to_string(refusal)),
+          refusal_(refusal)
+    {
+    }
+    const Refusal &refusal() const { return refusal_; }
+
+private:
+    Refusal refusal_;
+};
+
+// ---- results
+
+// What a call gives that has nothing to give.
+struct Done {};
+
+// A value or a refusal.
+template <typename Value> class [[nodiscard]] Result {
+public:
+    Result(Value value) : held_(std::move(value)) {}
+    Result(const Refusal &refusal) : held_(refusal) {}
+
+    bool done() const { return held_.index() == 0; }
+    explicit operator bool() const { return done(); }
+    uint32_t number() const { return done() ? uint32_t(DEHLBAZIN_DONE) : refusal()->number(); }
+
+    // The one or the other, null where it is not that.
+    Value *get() { return std::get_if<0>(&held_); }
+    const Value *get() const { return std::get_if<0>(&held_); }
+    const Refusal *refusal() const { return std::get_if<1>(&held_); }
+
+    // The value. Throws Refused where there is none; where exceptions are turned off, it ends the program.
+    Value &value() & { return checked(), *get(); }
+    const Value &value() const & { return checked(), *get(); }
+    Value value() && { return checked(), std::move(*get()); }
+
+private:
+    void checked() const
+    {
+        if (done())
+            return;
+#if defined(__cpp_exceptions) || defined(_CPPUNWIND)
+        throw Refused(*refusal());
+#else
+        std::abort();
+#endif
+    }
+
+    std::variant<Value, Refusal> held_;
+};
+
+// ---- edits
+
+// An edit of a name, made as an Update or a Delete.
+class Edit {
+public:
+    NameNumber name() const { return name_; }
+    Message message() const { return message_; }
+
+    // Its record in an edit list, of DEHLBAZIN_LIST_EDIT_SIZE bytes that are 0. The name and the message fit in 2 bytes.
+    void write(uint8_t *record) const
+    {
+        record[DEHLBAZIN_EDIT_AT_KIND] = next_ ? DEHLBAZIN_ROW_UPDATE : DEHLBAZIN_ROW_DELETE;
+        record[DEHLBAZIN_EDIT_AT_DEREF] = deref_;
+        record[DEHLBAZIN_EDIT_AT_LOG] = log_only_ ? DEHLBAZIN_LOG_ONLY : DEHLBAZIN_LOG_AND_REFERENCE;
+        record[DEHLBAZIN_EDIT_AT_FORCE] = force_;
+        record[DEHLBAZIN_EDIT_AT_EXPECTED] = uint8_t(expected_.kind());
+        put(record + DEHLBAZIN_EDIT_AT_EXPECTED_KIND, expected_.target());
+        put(record + DEHLBAZIN_EDIT_AT_NEW_KIND, next_);
+        put(record + DEHLBAZIN_EDIT_AT_NAME, name_.number(), 2);
+        put(record + DEHLBAZIN_EDIT_AT_MESSAGE, message_.number(), 2);
+    }
+
+protected:
+    Edit(NameNumber name, const std::optional<Target> &next) : name_(name), next_(next) {}
+
+    NameNumber name_;
+    std::optional<Target> next_; // none of a delete
+    Expected expected_ = Expected::any();
+    Message message_{0};
+    bool deref_ = false, log_only_ = false, force_ = false;
+
+private:
+    static void put(uint8_t *at, uint64_t number, size_t bytes)
+    {
+        for (; bytes > 0; number >>= 8)
+            at[--bytes] = uint8_t(number);
+    }
+    // A kind and a number; both are 0 already where there is no target.
+    static void put(uint8_t *at, const std::optional<Target> &target)
+    {
+        if (!target)
+            return;
+        at[0] = uint8_t(target->kind());
+        put(at + 1, target->number(), 8);
+    }
+};
+
+namespace detail {
+
+// What both kinds of edits can be told. Each gives the edit anew, so that an edit is written down as one expression.
+template <typename Self> class Editing : public Edit {
+public:
+    // Through the name's links: the edit is of the name that they lead to, and each on the way gets a log line.
+    Self deref() const
+    {
+        return with([](Self &edit) { edit.deref_ = true; });
+    }
+    // The log alone, and not the reference.
+    Self log_only() const
+    {
+        return with([](Self &edit) { edit.log_only_ = true; });
+    }
+    Self expecting(const Expected &expected) const
+    {
+        return with([&](Self &edit) { edit.expected_ = expected; });
+    }
+
+protected:
+    using Edit::Edit;
+    template <typename Change> Self with(Change change) const
+    {
+        Self edit = static_cast<const Self &>(*this);
+        change(edit);
+        return edit;
+    }
+};
+
+} // namespace detail
+
+class Update : public detail::Editing<Update> {
+public:
+    Update(NameNumber name, const Target &next) : Editing(name, next) {}
+
+    // A log line for any name, unless the setting is never.
+    Update force() const
+    {
+        return with([](Update &edit) { edit.force_ = true; });
+    }
+    Update message(Message message) const
+    {
+        return with([=](Update &edit) { edit.message_ = message; });
+    }
+};
+
+class Delete : public detail::Editing<Delete> {
+public:
+    explicit Delete(NameNumber name) : Editing(name, std::nullopt) {}
+};
+
+// The edits of a transaction, at most 32, and the bytes that stand for them.
+class EditList {
+public:
+    EditList()
+    {
+        bytes_[DEHLBAZIN_LIST_AT_VERSION] = DEHLBAZIN_LIST_VERSION;
+        count_to(0);
+    }
+
+    // The list of these edits, or why one of them cannot be added.
+    static Result<EditList> of(std::initializer_list<Edit> edits)
+    {
+        EditList list;
+        for (const Edit &edit : edits)
+            if (Result<Done> added = list.add(edit); !added)
+                return *added.refusal();
+        return list;
+    }
+
+    // Adds an edit. What the bytes of a list cannot hold is refused here, with the number that prepare would give, and the list
+    // stays as it was: 2 for a 33rd edit or a message above 65,535, 3 for a number above 65,535, which is no name's.
+    Result<Done> add(const Edit &edit)
+    {
+        if (count() == DEHLBAZIN_LIST_MOST_EDITS || edit.message().number() > UINT16_MAX)
+            return Refusal(Reason::malformed);
+        if (edit.name().number() > UINT16_MAX)
+            return Refusal(edit.name());
+        edit.write(bytes_.data() + size());
+        count_to(count() + 1);
+        return Done();
+    }
+
+    size_t count() const { return bytes_[DEHLBAZIN_LIST_AT_COUNT]; }
+    const uint8_t *data() const { return bytes_.data(); }
+    size_t size() const { return DEHLBAZIN_LIST_HEADER_SIZE + DEHLBAZIN_LIST_EDIT_SIZE * count(); }
+
+private:
+    void count_to(size_t count)
+    {
+        bytes_[DEHLBAZIN_LIST_AT_COUNT] = uint8_t(count);
+        const size_t follow = size() - DEHLBAZIN_LIST_AT_COUNT;
+        bytes_[DEHLBAZIN_LIST_AT_LENGTH] = uint8_t(follow >> 8);
+        bytes_[DEHLBAZIN_LIST_AT_LENGTH + 1] = uint8_t(follow);
+    }
+
+    std::array<uint8_t, DEHLBAZIN_LIST_MOST_BYTES> bytes_{};
+};
+
+// ---- walks
+
+// What stands at place 0, 1, 2 and so on, until there is no more: for range-for, once. Each is read when the walk comes to it.
+template <typename Read> class Walk {
+public:
+    using Item = typename Read::Item;
+
+    class Iterator {
+    public:
+        using iterator_category = std::input_iterator_tag;
+        using value_type = Item;
+        using difference_type = std::ptrdiff_t;
+        using pointer = const Item *;
+        using reference = const Item &;
+
+        explicit Iterator(Walk *walk) : walk_(walk) {}
+        reference operator*() const { return *walk_->item_; }
+        pointer operator->() const { return &*walk_->item_; }
+        Iterator &operator++()
+        {
+            walk_ = walk_->step() ? walk_ : nullptr;
+            return *this;
+        }
+        void operator++(int) { ++*this; }
+        friend bool operator==(Iterator x, Iterator y) { return x.walk_ == y.walk_; }
+        friend bool operator!=(Iterator x, Iterator y) { return x.walk_ != y.walk_; }
+
+    private:
+        Walk *walk_; // null at the end
+    };
+
+    explicit Walk(Read read) : read_(read) {}
+    Iterator begin()
+    {
+        place_ = 0;
+        refusal_.reset();
+        return Iterator(step() ? this : nullptr);
+    }
+    Iterator end() { return Iterator(nullptr); }
+
+    // Why the walk ended before all was seen; null where it came to its end, or was left.
+    const Refusal *refusal() const { return refusal_ ? &*refusal_ : nullptr; }
+
+private:
+    bool step()
+    {
+        Result<Item> next = read_(place_++);
+        item_.reset();
+        if (next)
+            item_ = *next.get();
+        else if (next.refusal()->reason() != Read::end)
+            refusal_ = *next.refusal();
+        return bool(item_);
+    }
+
+    Read read_;
+    uint64_t place_ = 0;
+    std::optional<Item> item_;
+    std::optional<Refusal> refusal_;
+};
+
+namespace detail {
+
+struct ReadNames;
+struct ReadLines;
+struct ReadRows;
+
+// Makes a call: the region, the call's own arguments, and a record for the answer.
+template <typename Entry, typename Byte, typename... Arguments>
+Answer ask(Entry entry, Byte *region, size_t size, Arguments... arguments)
+{
+    Answer answer;
+    answer.number = entry(region, size, arguments..., answer.record.data(), answer.record.size());
+    return answer;
+}
+
+// What a call gives when it is done, or its refusal.
+template <typename Make> auto given(const Answer &answer, Make make) -> Result<decltype(make(answer))>
+{
+    if (answer.number != DEHLBAZIN_DONE)
+        return Refusal(answer);
+    return make(answer);
+}
+
+inline Result<Done> given(const Answer &answer)
+{
+    return given(answer, [](const Answer &) { return Done(); });
+}
+
+} // namespace detail
+
+// ---- a store that is read
+
+// A good region, to be read. It changes nothing, and the bytes may be in memory that can only be read.
+class View {
+public:
+    static Result<View> open(const Region &region) { return open(region.data(), region.size()); }
+    // Refused with 1 where the size is another than DEHLBAZIN_REGION_SIZE, or the bytes are no good store.
+    static Result<View> open(const uint8_t *region, size_t size)
+    {
+        View view(region, size);
+        if (view.ask(dehlbazin_read_row, uint64_t(0)).number == DEHLBAZIN_BAD_REGION) // a good one gives 0 or 22
+            return Refusal(Reason::bad_region);
+        return view;
+    }
+
+    // The bytes of a name, where they stand in the region.
+    Result<std::string_view> name_bytes(NameNumber name) const
+    {
+        return detail::given(ask(dehlbazin_name_bytes, name.number()), [this](const detail::Answer &answer) {
+            const char *bytes = reinterpret_cast<const char *>(region_ + answer.place(DEHLBAZIN_NAME_BYTES_OFFSET));
+            return std::string_view(bytes, answer.place(DEHLBAZIN_NAME_BYTES_LENGTH));
+        });
+    }
+
+    // What a name reads; none where it reads nothing.
+    Result<std::optional<Target>> read_name(NameNumber name) const
+    {
+        return detail::given(ask(dehlbazin_read_name, name.number()),
+                             [](const detail::Answer &answer) { return answer.target(DEHLBAZIN_READ_NAME_KIND); });
+    }
+
+    // A line of a name's log, the oldest at place 0.
+    Result<Line> read_line(NameNumber name, uint64_t place) const
+    {
+        return detail::given(ask(dehlbazin_read_line, name.number(), place), [](const detail::Answer &answer) {
+            return Line{answer.object(DEHLBAZIN_READ_LINE_PREVIOUS), ObjectNumber(answer.place(DEHLBAZIN_READ_LINE_NEW)),
+                        Committer(answer.place(DEHLBAZIN_READ_LINE_COMMITTER)),
+                        Message(answer.place(DEHLBAZIN_READ_LINE_MESSAGE))};
+        });
+    }
+
+    // A row of the prepared transaction.
+    Result<Row> read_row(uint64_t place) const { return detail::given(ask(dehlbazin_read_row, place), row_of); }
+
+    // for (const Name &name : store.names()), in the order in which they were added.
+    Walk<detail::ReadNames> names() const;
+    // for (const Line &line : store.lines(name)), the oldest first. The walk is refused with 3 where there is no such name.
+    Walk<detail::ReadLines> lines(NameNumber name) const;
+    // for (const Row &row : store.rows()), of the prepared transaction; none where none is prepared.
+    Walk<detail::ReadRows> rows() const;
+
+protected:
+    // Null is no region, whatever size is said to be there.
+    View(const uint8_t *region, size_t size) : region_(region), size_(region ? size : 0) {}
+
+    template <typename Entry, typename... Arguments> detail::Answer ask(Entry entry, Arguments... arguments) const
+    {
+        return detail::ask(entry, region_, size_, arguments...);
+    }
+
+    const uint8_t *region_;
+    size_t size_;
+
+private:
+    static Row row_of(const detail::Answer &answer)
+    {
+        std::optional<uint64_t> parent;
+        if (answer.place(DEHLBAZIN_READ_ROW_HAS_PARENT) != 0)
+            parent = answer.place(DEHLBAZIN_READ_ROW_PARENT);
+        return Row{NameNumber(answer.place(DEHLBAZIN_READ_ROW_NAME)),
+                   answer.place(DEHLBAZIN_READ_ROW_KIND) == DEHLBAZIN_ROW_UPDATE,
+                   answer.place(DEHLBAZIN_READ_ROW_LOG) == DEHLBAZIN_LOG_ONLY,
+                   answer.place(DEHLBAZIN_READ_ROW_FORCE) != 0,
+                   Message(answer.place(DEHLBAZIN_READ_ROW_MESSAGE)),
+                   Expected(answer.place(DEHLBAZIN_READ_ROW_EXPECTED), answer.target(DEHLBAZIN_READ_ROW_EXPECTED_KIND)),
+                   answer.target(DEHLBAZIN_READ_ROW_NEW_KIND),
+                   parent,
+                   answer.object(DEHLBAZIN_READ_ROW_LEAF_PREVIOUS)};
+    }
+};
+
+namespace detail {
+
+struct ReadNames {
+    using Item = Name;
+    static constexpr Reason end = Reason::not_registered;
+    View view;
+
+    Result<Name> operator()(uint64_t place) const
+    {
+        const Result<std::string_view> bytes = view.name_bytes(NameNumber(place));
+        if (!bytes)
+            return *bytes.refusal();
+        return Name{NameNumber(place), *bytes.get()};
+    }
+};
+
+struct ReadLines {
+    using Item = Line;
+    static constexpr Reason end = Reason::nothing_there;
+    View view;
+    NameNumber name;
+
+    Result<Line> operator()(uint64_t place) const { return view.read_line(name, place); }
+};
+
+struct ReadRows {
+    using Item = Row;
+    static constexpr Reason end = Reason::nothing_there;
+    View view;
+
+    Result<Row> operator()(uint64_t place) const { return view.read_row(place); }
+};
+
+} // namespace detail
+
+inline Walk<detail::ReadNames> View::names() const { return Walk(detail::ReadNames{*this}); }
+inline Walk<detail::ReadLines> View::lines(NameNumber name) const { return Walk(detail::ReadLines{*this, name}); }
+inline Walk<detail::ReadRows> View::rows() const { return Walk(detail::ReadRows{*this}); }
+
+// ---- a store, and its transaction
+
+class Store;
+
+// A prepared transaction. It rolls back when it goes out of scope, unless it was committed or is over for another reason: rolled
+// back, or its store started anew or gone. It ends no transaction but its own.
+class [[nodiscard]] Transaction {
+public:
+    Transaction(Transaction &&other) noexcept { take(other); }
+    Transaction &operator=(Transaction &&other) noexcept
+    {
+        if (this != &other) {
+            give_up();
+            take(other);
+        }
+        return *this;
+    }
+    ~Transaction() { give_up(); }
+
+    bool prepared() const { return store_ != nullptr; }
+    uint64_t row_count() const { return rows_; } // how many rows prepare made
+
+    // Commits it, and it is over, stopped or not. Refused with 15 where it is over; with 2 for a committer above 65,535, and it
+    // stays prepared.
+    Result<Outcome> commit(Committer committer, Allowance allowance = every_write);
+    // Gives the number of rows that are given up, 0 where it is over.
+    Result<uint64_t> rollback();
+
+private:
+    friend class Store;
+    Transaction(Store &store, uint64_t rows);
+    void take(Transaction &other) noexcept;
+    void give_up() noexcept;
+
+    Store *store_ = nullptr; // null where it is over
+    uint64_t rows_ = 0;
+};
+
+// A region that is lent for as long as the store lives.
+class Store : public View {
+public:
+    // Makes an empty store, whatever the bytes were. Refused with 1 for a wrong size, with 2 for a wrong setting.
+    static Result<Store> start(Region &region, Setting setting) { return start(region.data(), region.size(), setting); }
+    static Result<Store> start(uint8_t *region, size_t size, Setting setting)
+    {
+        Store store(region, size);
+        const Result<Done> started = store.restart(setting);
+        return started ? Result<Store>(std::move(store)) : Result<Store>(*started.refusal());
+    }
+
+    // Takes up the store that stands there. Refused with 1 where the size is wrong, or the bytes are no good store. A transaction
+    // that was left prepared stays so: commit or rollback end it.
+    static Result<Store> open(Region &region) { return open(region.data(), region.size()); }
+    static Result<Store> open(uint8_t *region, size_t size)
+    {
+        const Result<View> view = View::open(region, size);
+        return view ? Result<Store>(Store(region, size)) : Result<Store>(*view.refusal());
+    }
+
+    Store(Store &&other) noexcept : View(other), bytes_(other.bytes_) { take(other); }
+    Store &operator=(Store &&other) noexcept
+    {
+        if (this != &other) {
+            drop();
+            View::operator=(other);
+            bytes_ = other.bytes_;
+            take(other);
+        }
+        return *this;
+    }
+    ~Store() { drop(); }
+
+    // Makes it empty, with a log setting. What was there is gone, a prepared transaction too.
+    Result<Done> restart(Setting setting)
+    {
+        Result<Done> started = detail::given(change(dehlbazin_start, uint64_t(setting)));
+        if (started)
+            transaction_over();
+        return started;
+    }
+
+    // The number of a name, which is added where it is new. The bytes may be anywhere, in the region too: they are copied. A name
+    // has at most 64, so that of more no more than 65 are needed to be refused.
+    Result<NameNumber> add_name(std::string_view name)
+    {
+        std::array<uint8_t, MOST_NAME_BYTES + 1> copy;
+        const size_t length = name.size() < copy.size() ? name.size() : copy.size();
+        if (length > 0)
+            std::memcpy(copy.data(), name.data(), length);
+        return detail::given(change(dehlbazin_add_name, static_cast<const uint8_t *>(copy.data()), length),
+                             [](const detail::Answer &answer) { return NameNumber(answer.place(DEHLBAZIN_ADD_NAME_NUMBER)); });
+    }
+
+    Result<Done> load_loose(NameNumber name, const Loose &value)
+    {
+        return detail::given(change(dehlbazin_load_loose, name.number(), value.kind(), value.number()));
+    }
+    Result<Done> load_packed(NameNumber name, const std::optional<ObjectNumber> &object)
+    {
+        const uint64_t kind = object ? DEHLBAZIN_KIND_OBJECT : DEHLBAZIN_KIND_NONE;
+        return detail::given(change(dehlbazin_load_packed, name.number(), kind, object ? object->number() : 0));
+    }
+
+    // Foreign locks: another program holds the name, or the packed table.
+    Result<Done> lock_name(NameNumber name) { return detail::given(change(dehlbazin_lock_name, name.number())); }
+    Result<Done> unlock_name(NameNumber name) { return detail::given(change(dehlbazin_unlock_name, name.number())); }
+    Result<Done> lock_packed() { return detail::given(change(dehlbazin_lock_packed)); }
+    Result<Done> unlock_packed() { return detail::given(change(dehlbazin_unlock_packed)); }
+
+    // Prepares the edits: all of them, or none and the reason why.
+    Result<Transaction> prepare(const EditList &edits, Mode mode = Mode::deletions)
+    {
+        const detail::Answer answer = change(dehlbazin_prepare, edits.data(), edits.size(), uint64_t(mode));
+        if (answer.number != DEHLBAZIN_DONE)
+            return Refusal(answer);
+        return Transaction(*this, answer.place(DEHLBAZIN_PREPARE_ROWS));
+    }
+
+    // Ends what is prepared, whoever prepared it: as after open. Where there is a Transaction of it, that one is over.
+    Result<Outcome> commit(Committer committer, Allowance allowance = every_write)
+    {
+        const detail::Answer answer = change(dehlbazin_commit, committer.number(), allowance.number());
+        const Outcome::End end = Outcome::End(answer.number);
+        if (end != Outcome::End::all_written && end != Outcome::End::no_committer && end != Outcome::End::used_up)
+            return Refusal(answer);
+        transaction_over();
+        return Outcome{end, answer.place(DEHLBAZIN_COMMIT_WRITES)};
+    }
+    Result<uint64_t> rollback()
+    {
+        Result<uint64_t> rows = detail::given(
+            change(dehlbazin_rollback), [](const detail::Answer &answer) { return answer.place(DEHLBAZIN_ROLLBACK_ROWS); });
+        if (rows)
+            transaction_over();
+        return rows;
+    }
+
+private:
+    friend class Transaction;
+    static constexpr size_t MOST_NAME_BYTES = 64;
+
+    Store(uint8_t *region, size_t size) : View(region, size), bytes_(region) {}
+
+    template <typename Entry, typename... Arguments> detail::Answer change(Entry entry, Arguments... arguments)
+    {
+        return detail::ask(entry, bytes_, size_, arguments...);
+    }
+
+    void transaction_over() noexcept
+    {
+        if (transaction_)
+            transaction_->store_ = nullptr;
+        transaction_ = nullptr;
+    }
+    // Rolls back what a Transaction of this store still holds, since the region may not outlive the store.
+    void drop() noexcept
+    {
+        if (transaction_)
+            transaction_->give_up();
+    }
+    // The other is left with no region, which every call refuses with 1.
+    void take(Store &other) noexcept
+    {
+        transaction_ = std::exchange(other.transaction_, nullptr);
+        if (transaction_)
+            transaction_->store_ = this;
+        other.bytes_ = nullptr;
+        other.region_ = nullptr;
+        other.size_ = 0;
+    }
+
+    uint8_t *bytes_;
+    Transaction *transaction_ = nullptr; // the one that is prepared, if it was prepared here
+};
+
+inline Transaction::Transaction(Store &store, uint64_t rows) : store_(&store), rows_(rows) { store.transaction_ = this; }
+
+inline void Transaction::take(Transaction &other) noexcept
+{
+    store_ = std::exchange(other.store_, nullptr);
+    rows_ = other.rows_;
+    if (store_)
+        store_->transaction_ = this;
+}
+
+// Only a region that was spoilt meanwhile refuses this, and then nothing is to be done about it.
+inline void Transaction::give_up() noexcept
+{
+    if (!store_)
+        return;
+    Store *store = store_;
+    (void)store->rollback();
+    store->transaction_over();
+}
+
+inline Result<Outcome> Transaction::commit(Committer committer, Allowance allowance)
+{
+    if (!store_)
+        return Refusal(Reason::wrong_state);
+    return store_->commit(committer, allowance);
+}
+
+inline Result<uint64_t> Transaction::rollback()
+{
+    if (!store_)
+        return uint64_t(0);
+    return store_->rollback();
+}
+
+// ---- in words
+
+namespace detail {
+
+// Names by their bytes where there is a store to ask, else by their numbers.
+struct Speaker {
+    const View *view = nullptr;
+
+    std::string name(NameNumber number) const
+    {
+        if (view)
+            if (const Result<std::string_view> bytes = view->name_bytes(number))
+                return std::string(*bytes.get());
+        return "name " + std::to_string(number.number());
+    }
+    std::string target(const std::optional<Target> &target) const
+    {
+        if (!target)
+            return "nothing";
+        if (target->is_link())
+            return "a link to " + name(*target->link());
+        return "object " + std::to_string(target->number());
+    }
+    std::string refusal(const Refusal &refusal) const
+    {
+        const std::string says = word_of(refusal.number()).says;
+        if (refusal.reason() == Reason::not_registered)
+            return "name " + std::to_string(refusal.name()->number()) + ": " + says;
+        if (!refusal.name())
+            return says;
+        const std::string of = name(*refusal.name()) + ": " + says;
+        switch (refusal.reason()) {
+        case Reason::must_not_exist:
+            return of + ", found " + target(refusal.actual()) + " where " + target(refusal.next()) + " was to be written";
+        case Reason::must_exist:
+            return of + " " + (refusal.expected() ? target(refusal.expected()) : "a value") + ", found nothing";
+        case Reason::reference_out_of_date:
+            return of + " " + target(refusal.expected()) + ", found " + target(refusal.actual());
+        default:
+            return of;
+        }
+    }
+};
+
+} // namespace detail
+
+// "refs/heads/aisle: expected object 9, found a link to HEAD", or without a store "name 1: expected object 9, found a link to
+// name 0".
+inline std::string to_string(const Refusal &refusal) { return detail::Speaker{}.refusal(refusal); }
+inline std::string to_string(const Refusal &refusal, const View &store) { return detail::Speaker{&store}.refusal(refusal); }
+
+// "object 9", "a link to HEAD", "nothing".
+inline std::string to_string(const std::optional<Target> &target) { return detail::Speaker{}.target(target); }
+inline std::string to_string(const std::optional<Target> &target, const View &store)
+{
+    return detail::Speaker{&store}.target(target);
+}
+
+// "3 writes", or "stopped after 3 writes: the allowance is used up".
+inline std::string to_string(const Outcome &outcome)
+{
+    const std::string writes = std::to_string(outcome.writes) + (outcome.writes == 1 ? " write" : " writes");
+    return outcome.all_written() ? writes : "stopped after " + writes + ": " + detail::word_of(outcome.number()).says;
+}
+
+} // namespace dehlbazin
+
+#endif

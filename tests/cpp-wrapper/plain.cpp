@@ -1,0 +1,79 @@
+#include "step.h"
+
+using dehlbazin::Region;
+
+static void put(std::string &bytes, uint64_t number, int size)
+{
+    for (int shift = 8 * (size - 1); shift >= 0; shift -= 8)
+        bytes += char(uint8_t(number >> shift));
+}
+
+std::string list_bytes(const std::vector<Fields> &edits)
+{
+    std::string bytes;
+    put(bytes, 1, 1);
+    put(bytes, 1 + 27 * edits.size(), 2);
+    put(bytes, edits.size(), 1);
+    for (const Fields &edit : edits) {
+        put(bytes, edit.update ? 1 : 2, 1);
+        put(bytes, edit.deref, 1);
+        put(bytes, edit.log_only, 1);
+        put(bytes, edit.force, 1);
+        put(bytes, edit.expected, 1);
+        put(bytes, edit.expected_kind, 1);
+        put(bytes, edit.expected_number, 8);
+        put(bytes, edit.next_kind, 1);
+        put(bytes, edit.next_number, 8);
+        put(bytes, edit.name, 2);
+        put(bytes, edit.message, 2);
+    }
+    return bytes;
+}
+
+static uint32_t call(const Step &s, uint8_t *r, size_t n, uint8_t *answer, size_t size)
+{
+    const std::string bytes = s.op == Op::prepare ? list_bytes(s.edits) : s.bytes;
+    const uint8_t *lent = reinterpret_cast<const uint8_t *>(bytes.data());
+    switch (s.op) {
+    case Op::start:
+        return dehlbazin_start(r, n, s.a, answer, size);
+    case Op::add_name:
+        return dehlbazin_add_name(r, n, lent, bytes.size(), answer, size);
+    case Op::name_bytes:
+        return dehlbazin_name_bytes(r, n, s.a, answer, size);
+    case Op::load_loose:
+        return dehlbazin_load_loose(r, n, s.a, s.b, s.c, answer, size);
+    case Op::load_packed:
+        return dehlbazin_load_packed(r, n, s.a, s.b, s.c, answer, size);
+    case Op::lock_name:
+        return dehlbazin_lock_name(r, n, s.a, answer, size);
+    case Op::unlock_name:
+        return dehlbazin_unlock_name(r, n, s.a, answer, size);
+    case Op::lock_packed:
+        return dehlbazin_lock_packed(r, n, answer, size);
+    case Op::unlock_packed:
+        return dehlbazin_unlock_packed(r, n, answer, size);
+    case Op::prepare:
+        return dehlbazin_prepare(r, n, lent, bytes.size(), s.a, answer, size);
+    case Op::commit:
+        return dehlbazin_commit(r, n, s.a, s.b, answer, size);
+    case Op::rollback:
+        return dehlbazin_rollback(r, n, answer, size);
+    case Op::read_name:
+        return dehlbazin_read_name(r, n, s.a, answer, size);
+    case Op::read_line:
+        return dehlbazin_read_line(r, n, s.a, s.b, answer, size);
+    default:
+        return dehlbazin_read_row(r, n, s.a, answer, size);
+    }
+}
+
+Reply make_plainly(const Step &step, Region &region)
+{
+    uint8_t answer[DEHLBAZIN_ANSWER_SIZE];
+    Reply reply;
+    reply.number = call(step, region.data(), region.size(), answer, sizeof answer);
+    for (size_t i = 0; i < reply.places.size(); i++)
+        reply.places[i] = dehlbazin_place(answer, i);
+    return reply;
+}

@@ -1,0 +1,76 @@
+// A call as numbers and bytes, which can be made in two ways: through dehlbazin.h, and through dehlbazin.hpp.
+#pragma once
+
+#include "dehlbazin.hpp"
+
+#include <array>
+#include <string>
+#include <vector>
+
+enum class Op {
+    start,
+    add_name,
+    name_bytes,
+    load_loose,
+    load_packed,
+    lock_name,
+    unlock_name,
+    lock_packed,
+    unlock_packed,
+    prepare,
+    commit,
+    rollback,
+    read_name,
+    read_line,
+    read_row,
+};
+constexpr size_t OPS = size_t(Op::read_row) + 1;
+
+// An edit in numbers. An update has a target, object or link; a delete has neither force nor a message.
+struct Fields {
+    bool update = true, deref = false, log_only = false, force = false;
+    uint64_t expected = DEHLBAZIN_EXPECTED_ANY;
+    uint64_t expected_kind = DEHLBAZIN_KIND_NONE, expected_number = 0;
+    uint64_t next_kind = DEHLBAZIN_KIND_NONE, next_number = 0;
+    uint64_t name = 0, message = 0;
+};
+
+struct Step {
+    Op op;
+    uint64_t a = 0, b = 0, c = 0; // the numbers, in the call's order
+    std::string bytes{};          // a name's
+    std::vector<Fields> edits{};
+    unsigned way = 0; // of a commit or a rollback: through the transaction, or the store, or by letting it go
+};
+
+struct Reply {
+    uint32_t number = 0;
+    std::array<uint64_t, 16> places{};
+};
+inline bool operator==(const Reply &x, const Reply &y) { return x.number == y.number && x.places == y.places; }
+
+// The bytes of an edit list, by the table of docs/SPEC.md.
+std::string list_bytes(const std::vector<Fields> &edits);
+
+// Through dehlbazin.h.
+Reply make_plainly(const Step &step, dehlbazin::Region &region);
+
+// Through dehlbazin.hpp, with a transaction that is kept from its preparing on. What is given as values is put back into places.
+class Typed {
+public:
+    explicit Typed(dehlbazin::Region &region) : region_(region), store_(dehlbazin::Store::open(region).value()) {}
+    Reply make(const Step &step);
+    bool has_transaction() const { return transaction_ && transaction_->prepared(); }
+
+private:
+    Reply load(const Step &step);
+    Reply lock(const Step &step);
+    Reply prepare(const Step &step);
+    Reply commit(const Step &step);
+    Reply rollback(const Step &step);
+    Reply read(const Step &step);
+
+    dehlbazin::Region &region_;
+    dehlbazin::Store store_;
+    std::optional<dehlbazin::Transaction> transaction_;
+};

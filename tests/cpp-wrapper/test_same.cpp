@@ -1,0 +1,223 @@
+// Random calls, each made through dehlbazin.hpp and through dehlbazin.h, on two regions that stay the same byte for byte.
+#include "check.h"
+#include "dice.h"
+#include "parts.h"
+#include "step.h"
+#include "tally.h"
+
+#include <cstdio>
+
+using dehlbazin::Region;
+
+// What is known of the store, to throw calls that do something: how many names there are, and whether something is prepared.
+struct Known {
+    uint64_t names = 0;
+    bool prepared = false;
+};
+
+// Mostly below a count; sometimes it, or one that would be below it if it were cut down.
+static uint64_t number_near(Dice &dice, uint64_t count)
+{
+    const uint64_t below = count > 0 ? dice.below(count) : 0;
+    switch (dice.below(30)) {
+    case 0:
+        return count;
+    case 1:
+        return below + (uint64_t(1) << dice.one_of(std::array<unsigned, 4>{8, 16, 32, 63}));
+    default:
+        return below;
+    }
+}
+
+// Few objects, so that they meet; and the largest.
+static uint64_t some_object(Dice &dice) { return dice.once_in(30) ? ~uint64_t(0) : dice.once_in(60) ? 0 : 1 + dice.below(4); }
+
+static std::string some_name(Dice &dice)
+{
+    static const char *const good[] = {"HEAD",         "refs/heads/a", "refs/heads/b",    "refs/heads/c",
+                                       "refs/heads/d", "refs/tags/a",  "ORIG_HEAD",       "refs/bisect/x",
+                                       "refs/notes/n", "refs/x",       "refs/remotes/o/a"};
+    static const char *const bad[] = {"", "head", "refs/", "refs/a..b", "refs/a.lock"};
+    return dice.once_in(12) ? dice.one_of(bad) : dice.one_of(good);
+}
+
+static void some_target(Dice &dice, const Known &known, uint64_t &kind, uint64_t &number)
+{
+    kind = dice.once_in(3) ? DEHLBAZIN_KIND_LINK : DEHLBAZIN_KIND_OBJECT;
+    number = kind == DEHLBAZIN_KIND_LINK ? number_near(dice, known.names) : some_object(dice);
+}
+
+static Fields some_edit(Dice &dice, const Known &known)
+{
+    Fields edit;
+    edit.update = !dice.once_in(3);
+    edit.deref = dice.once_in(2);
+    edit.log_only = dice.once_in(6);
+    edit.expected = dice.once_in(2) ? DEHLBAZIN_EXPECTED_ANY : dice.below(5);
+    if (edit.expected >= DEHLBAZIN_EXPECTED_MUST_EXIST_AND_MATCH)
+        some_target(dice, known, edit.expected_kind, edit.expected_number);
+    edit.name = number_near(dice, known.names) & 0xffff;
+    if (edit.update) {
+        some_target(dice, known, edit.next_kind, edit.next_number);
+        edit.force = dice.once_in(4);
+        edit.message = dice.below(65536);
+    }
+    return edit;
+}
+
+static Step some_prepare(Dice &dice, const Known &known)
+{
+    Step step{Op::prepare};
+    step.a = dice.once_in(20) ? number_near(dice, 4) : 1 + dice.below(3);
+    const uint64_t count = dice.once_in(40) ? 32 : dice.once_in(3) ? dice.below(6) : 1;
+    while (step.edits.size() < count)
+        step.edits.push_back(some_edit(dice, known));
+    return step;
+}
+
+static Step some_commit(Dice &dice)
+{
+    Step step{Op::commit};
+    step.a = dice.once_in(6) ? 0 : dice.once_in(12) ? 65536 + dice.below(9) : 1 + dice.below(65535);
+    step.b = dice.once_in(2) ? dice.below(6) : ~uint64_t(0);
+    step.way = unsigned(dice.below(6));
+    return step;
+}
+
+static Step some_load(Dice &dice, const Known &known, bool packed)
+{
+    Step step{packed ? Op::load_packed : Op::load_loose};
+    step.a = number_near(dice, known.names);
+    step.b = packed ? dice.below(2) : dice.below(4);
+    if (step.b == DEHLBAZIN_KIND_OBJECT)
+        step.c = some_object(dice);
+    if (step.b == DEHLBAZIN_KIND_LINK)
+        step.c = number_near(dice, known.names);
+    return step;
+}
+
+// Any of the fifteen, with numbers that are good for the most part.
+static Step some_step(Dice &dice, const Known &known)
+{
+    Step step{Op(dice.below(OPS))};
+    step.way = unsigned(dice.below(6));
+    switch (step.op) {
+    case Op::start:
+        step.a = dice.once_in(20) ? dice.below(3) : 3 + (dice.any() << 2);
+        return step;
+    case Op::add_name:
+        step.bytes = some_name(dice);
+        return step;
+    case Op::load_loose:
+    case Op::load_packed:
+        return some_load(dice, known, step.op == Op::load_packed);
+    case Op::prepare:
+        return some_prepare(dice, known);
+    case Op::commit:
+        return some_commit(dice);
+    case Op::read_row:
+        step.a = number_near(dice, 4);
+        return step;
+    default:
+        step.a = number_near(dice, known.names);
+        step.b = number_near(dice, 3);
+        return step;
+    }
+}
+
+// Mostly the call that brings a store on its way to a commit.
+static Step next_step(Dice &dice, const Known &known)
+{
+    if (dice.once_in(2))
+        return some_step(dice, known);
+    if (known.prepared)
+        return dice.once_in(2) ? some_commit(dice) : Step{Op::read_row, number_near(dice, 4)};
+    if (dice.once_in(4))
+        return Step{dice.once_in(2) ? Op::unlock_packed : Op::unlock_name, number_near(dice, known.names)};
+    if (known.names < 4) {
+        Step step{Op::add_name};
+        step.bytes = some_name(dice);
+        return step;
+    }
+    return dice.once_in(3) ? some_load(dice, known, dice.once_in(3)) : some_prepare(dice, known);
+}
+
+static void learn(Known &known, const Step &step, const Reply &reply)
+{
+    if (step.op == Op::start && reply.number == 0)
+        known = {};
+    if (step.op == Op::add_name && reply.number == 0 && reply.places[0] == known.names)
+        known.names++;
+    if (step.op == Op::prepare)
+        known.prepared = reply.number == 0 || reply.number == 15;
+    if ((step.op == Op::commit && reply.number != 2) || step.op == Op::rollback)
+        known.prepared = false;
+}
+
+static std::string describe(const Step &step, const Reply &typed, const Reply &plain)
+{
+    return "op " + std::to_string(int(step.op)) + " (" + std::to_string(step.a) + ", " + std::to_string(step.b) + ", " +
+           std::to_string(step.c) + ") '" + step.bytes + "', " + std::to_string(step.edits.size()) + " edits: typed " +
+           std::to_string(typed.number) + ", plain " + std::to_string(plain.number);
+}
+
+// Two regions, and what was made on both.
+struct Pair {
+    Region typed_region{}, plain_region{};
+    Typed typed;
+    Known known;
+    Tally numbers, done;
+
+    Pair() : typed(started()) {}
+
+    void make(const Step &step)
+    {
+        const bool silent = step.op == Op::rollback && step.way % 3 == 0 && typed.has_transaction();
+        const Reply plain = make_plainly(step, plain_region), reply = typed.make(step);
+        if (!silent || plain.number == 0) // a transaction that is let go cannot say that it was refused
+            check(reply == plain, describe(step, reply, plain));
+        check(typed_region == plain_region, "the same bytes after " + describe(step, reply, plain));
+        learn(known, step, plain);
+        numbers.given[plain.number]++;
+        last = plain.number;
+        if (!refused())
+            done.given[size_t(step.op)]++;
+    }
+    void turn_over(size_t at, uint8_t bits)
+    {
+        typed_region[at] ^= bits;
+        plain_region[at] ^= bits;
+    }
+    bool refused() const { return last != 0 && last != 16 && last != 17; }
+
+private:
+    uint32_t last = 0;
+
+    Region &started()
+    {
+        (void)dehlbazin::Store::start(typed_region, dehlbazin::Setting::normal).value();
+        plain_region = typed_region;
+        return typed_region;
+    }
+};
+
+// Now and then a bit of both regions is turned over before a call, and back where the call is refused.
+void test_same(size_t calls, uint64_t seed)
+{
+    std::printf("same: %zu calls, seed %llu\n", calls, static_cast<unsigned long long>(seed));
+    Dice dice(seed);
+    Pair pair;
+    for (size_t made = 0; made < calls; made++) {
+        const bool spoilt = dice.once_in(50);
+        const size_t at = dice.below(DEHLBAZIN_REGION_SIZE);
+        const uint8_t bits = spoilt ? uint8_t(1u << dice.below(8)) : uint8_t(0);
+        pair.turn_over(at, bits);
+        pair.make(next_step(dice, pair.known));
+        if (pair.refused())
+            pair.turn_over(at, bits);
+    }
+    pair.numbers.all_met("the calls", {0, 1, 2, 3, 4, 6, 7, 8, 9, 10, 11, 12, 13, 15, 16, 17, 18, 20, 21, 22});
+    for (size_t op = 0; op < OPS; op++)
+        check(pair.done.given[op] > calls / 2000,
+              "call " + std::to_string(op) + " was done " + std::to_string(pair.done.given[op]) + " times");
+}

@@ -1,0 +1,100 @@
+// Refusals, targets and outcomes in words.
+#include "parts.h"
+#include "site.h"
+
+#include <cctype>
+#include <cstring>
+#include <fstream>
+#include <set>
+
+static void says(const std::string &found, const std::string &words, AT_CALLER) { check(found == words, found, at); }
+
+// Both ways to say it: with the store's names, and without.
+template <typename Value> static void says(const Store &store, const Result<Value> &result, const std::string &words,
+                                           const std::string &numbers, AT_CALLER)
+{
+    check(!result.done(), "refused", at);
+    if (!result.done()) {
+        says(to_string(*result.refusal(), store), words, at);
+        says(to_string(*result.refusal()), numbers, at);
+    }
+}
+
+static void test_refusals()
+{
+    Marked site;
+    Store &store = site.store;
+    done(store.load_loose(aisle, link(head)));
+    auto prepare = [&](const Edit &edit) { return store.prepare(list_of({edit})); };
+    says(store, prepare(Update(aisle, object(1)).expecting(Expected::must_exist_and_match(object(9)))),
+         "refs/heads/aisle: expected object 9, found a link to HEAD", "name 1: expected object 9, found a link to name 0");
+    says(store, prepare(Update(head, object(7)).expecting(Expected::must_not_exist())),
+         "HEAD: expected nothing, found a link to refs/heads/aisle where object 7 was to be written",
+         "name 0: expected nothing, found a link to name 1 where object 7 was to be written");
+    const NameNumber tag = store.add_name("refs/tags/spring").value();
+    says(store, prepare(Update(tag, object(7)).expecting(Expected::must_exist())),
+         "refs/tags/spring: expected a value, found nothing", "name 2: expected a value, found nothing");
+    says(store, prepare(Update(tag, object(7)).expecting(Expected::must_exist_and_match(link(head)))),
+         "refs/tags/spring: expected a link to HEAD, found nothing", "name 2: expected a link to name 0, found nothing");
+    says(store, prepare(Delete(tag).expecting(Expected::must_exist())), "refs/tags/spring: to be deleted, but nothing is there",
+         "name 2: to be deleted, but nothing is there");
+    says(store, prepare(Delete(tag).expecting(Expected::must_not_exist())), "refs/tags/spring: a delete that expects nothing",
+         "name 2: a delete that expects nothing");
+    says(store, store.prepare(list_of({Delete(tag), Delete(tag)})), "refs/tags/spring: two rows have this name",
+         "name 2: two rows have this name");
+    done(store.lock_name(tag));
+    says(store, prepare(Delete(tag)), "refs/tags/spring: its lock is foreign, or that of a name that its links lead to",
+         "name 2: its lock is foreign, or that of a name that its links lead to");
+    says(store, store.read_name(NameNumber(65536)), "name 65536: no name has this number",
+         "name 65536: no name has this number");
+    says(store, prepare(Update(head, object(1)).deref()), "links are still followed in a fifth round",
+         "links are still followed in a fifth round");
+    says(store, store.add_name("head"), "the bytes are no name", "the bytes are no name");
+    says(store, store.commit(Committer(1)), "a transaction is prepared and must not be, or none is and must be",
+         "a transaction is prepared and must not be, or none is and must be");
+}
+
+static void test_others()
+{
+    Marked site;
+    says(to_string(object(9)), "object 9");
+    says(to_string(link(aisle)), "a link to name 1");
+    says(to_string(link(aisle), site.store), "a link to refs/heads/aisle");
+    says(to_string(link(NameNumber(300)), site.store), "a link to name 300");
+    says(to_string(std::optional<Target>()), "nothing");
+    says(to_string(Outcome{Outcome::End::all_written, 1}), "1 write");
+    says(to_string(Outcome{Outcome::End::used_up, 3}), "stopped after 3 writes: the allowance is used up");
+    says(to_string(Outcome{Outcome::End::no_committer, 0}), "stopped after 0 writes: a log line has no committer");
+}
+
+// The names of the numbers are those of dehlbazin.h, which is read here as text: '#define DEHLBAZIN_BAD_NAME 18' makes 18 bad_name.
+static void test_names_of_numbers()
+{
+    std::ifstream header("include/dehlbazin.h");
+    std::set<uint32_t> numbers;
+    bool among = false;
+    for (std::string line, word, name; std::getline(header, line);) {
+        among = (among || line.rfind("#define DEHLBAZIN_DONE ", 0) == 0) && line.rfind("/* ----", 0) != 0;
+        if (!among || line.rfind("#define DEHLBAZIN_", 0) != 0)
+            continue;
+        const size_t begin = std::strlen("#define DEHLBAZIN_"), end = line.find(' ', begin);
+        const uint32_t number = uint32_t(std::stoul(line.substr(end)));
+        name = line.substr(begin, end - begin);
+        for (char &c : name)
+            c = char(std::tolower(static_cast<unsigned char>(c)));
+        says(detail::word_of(number).name, name);
+        check(std::strlen(detail::word_of(number).says) > 0, name + " has words");
+        numbers.insert(number);
+    }
+    check(numbers.size() == 23 && *numbers.rbegin() == 22, "all numbers from 0 to 22");
+    says(Refusal(Reason(23)).reason_name(), "unknown"); // of a later archive
+    says(Refusal(Reason::too_many_rows).reason_name(), "too_many_rows");
+    says(to_string(Refusal(Reason::too_many_rows)), "the edits come to more than 160 rows");
+}
+
+void test_words()
+{
+    test_refusals();
+    test_others();
+    test_names_of_numbers();
+}
