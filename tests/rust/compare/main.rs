@@ -23,6 +23,7 @@ mod shown;
 mod shrink;
 mod singles;
 mod site;
+mod speed;
 mod tally;
 mod text;
 
@@ -46,6 +47,7 @@ fn main() {
         ["crossed", stride] => runs::fine(&runs::crossed(&site, number(stride))),
         ["singles", stride] => runs::fine(&runs::singles(&site, number(stride))),
         ["doubles", stride] => runs::doubles(&site, number(stride)).fine(),
+        ["speed"] => speed::print(&site),
         _ => usage(),
     };
     drop(site);
@@ -55,7 +57,7 @@ fn main() {
 fn usage() -> ! {
     eprintln!("usage: compare all COUNT SEED | share PART | record FILE | check FILE | replay FILE");
     eprintln!("       compare git COUNT SEED | differences | named | quick | random COUNT SEED");
-    eprintln!("       compare crossed STRIDE | singles STRIDE | doubles STRIDE");
+    eprintln!("       compare crossed STRIDE | singles STRIDE | doubles STRIDE | speed");
     std::process::exit(2)
 }
 
