@@ -12,10 +12,10 @@ extern "C" uint64_t first_name_from_c(uint8_t *region, size_t region_len, uint32
 extern "C" size_t list_from_c(uint8_t *list);
 extern "C" uint32_t move_from_c(uint8_t *region, size_t region_len, const uint8_t *list, size_t list_len, uint64_t *writes);
 
-#if DEHLBAZIN_VERSION != 3000
-#error "the version is not 0.3.0, or #if cannot read it"
+#if DEHLBAZIN_VERSION != 4000
+#error "the version is not 0.4.0, or #if cannot read it"
 #endif
-static_assert(DEHLBAZIN_VERSION_MAJOR == 0 && DEHLBAZIN_VERSION_MINOR == 3 && DEHLBAZIN_VERSION_PATCH == 0);
+static_assert(DEHLBAZIN_VERSION_MAJOR == 0 && DEHLBAZIN_VERSION_MINOR == 4 && DEHLBAZIN_VERSION_PATCH == 0);
 static_assert(DEHLBAZIN_LAYOUT_VERSION == 1);
 static_assert(DEHLBAZIN_REGION_SIZE == REGION && DEHLBAZIN_ANSWER_SIZE == 16 * 8);
 
