@@ -184,13 +184,18 @@ pub fn is_to_follow(line: &Line, word: u64, notes: &mut Notes) -> bool {
     is_of_block(line, word, notes)
 }
 
-// The file ends behind a block, and has as many cases as it said.
-pub fn end(notes: &mut Notes) {
-    let last = notes[Note::WORD];
-    if last != Word::END && last != Word::NONE {
-        report::fault(notes, b"the file ends here");
+// The file ends behind a block.
+fn is_at_end(notes: &mut Notes) {
+    match notes[Note::WORD] {
+        Word::END | Word::NONE => {}
+        _ => report::fault(notes, b"the file ends here"),
     }
+}
+
+// The file is at its end, and has as many cases as it said.
+pub fn end(notes: &mut Notes) {
     let told = notes[Note::TOLD];
     let cases = notes[Note::CASES];
     report::same(notes, b"cases", told, cases);
+    is_at_end(notes);
 }

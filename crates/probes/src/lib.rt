@@ -78,31 +78,46 @@ fn no_names(notes: &mut Notes) {
 
 // ---- loads
 
+fn loose(notes: &mut Notes, kind: u64, of: u64, returns: u64, place: u64) {
+    is(notes, Call::LOAD_LOOSE, 0, kind, of, returns, place);
+}
+
 fn loads(notes: &mut Notes) {
-    is(notes, Call::LOAD_LOOSE, 0, 2, 3, 3, 3);
-    is(notes, Call::LOAD_LOOSE, 0, 2, 65536, 3, 65536);
-    is(notes, Call::LOAD_LOOSE, 0, 1, 0, 21, 0);
-    is(notes, Call::LOAD_LOOSE, 0, 3, 7, 21, 0);
-    is(notes, Call::LOAD_LOOSE, 0, 4, 1, 21, 0);
+    loose(notes, 2, 3, 3, 3);
+    loose(notes, 2, 65536, 3, 65536);
+    loose(notes, 1, 0, 21, 0);
+    loose(notes, 3, 7, 21, 0);
+    loose(notes, 4, 1, 21, 0);
+}
+
+fn packed(notes: &mut Notes, name: u64, kind: u64, returns: u64) {
+    let of = if kind == 1 { 7 } else { 0 };
+    is(notes, Call::LOAD_PACKED, name, kind, of, returns, 0);
 }
 
 // HEAD and what lies below refs/bisect/ have no packed values, and refs/bisect itself may.
 fn packed_loads(notes: &mut Notes) {
-    is(notes, Call::LOAD_PACKED, 0, 1, 7, 21, 0);
-    is(notes, Call::LOAD_PACKED, 1, 1, 7, 0, 0);
-    is(notes, Call::LOAD_PACKED, 1, 2, 0, 21, 0);
-    is(notes, Call::LOAD_PACKED, 2, 1, 7, 21, 0);
-    is(notes, Call::LOAD_PACKED, 1, 0, 0, 0, 0);
+    packed(notes, 0, 1, 21);
+    packed(notes, 1, 1, 0);
+    packed(notes, 1, 2, 21);
+    packed(notes, 2, 1, 21);
+    packed(notes, 1, 0, 0);
 }
 
 // ---- lists
 
-// The fields of an update of name 0 to object 7.
-fn put_update(notes: &mut Notes) {
+// The fields of an update of name 0.
+fn put_update(notes: &mut Notes, kind: u64, new: u64) {
     notes::clear(notes, Note::FIELDS, 16);
     notes::set_field(notes, 0, 1);
-    notes::set_field(notes, 7, 1);
-    notes::set_field(notes, 8, 7);
+    notes::set_field(notes, 7, kind);
+    notes::set_field(notes, 8, new);
+}
+
+fn put_expected(notes: &mut Notes, expected: u64, kind: u64, number: u64) {
+    notes::set_field(notes, 4, expected);
+    notes::set_field(notes, 5, kind);
+    notes::set_field(notes, 6, number);
 }
 
 // The line's fields are the only edit.
@@ -113,38 +128,32 @@ fn prepare(notes: &mut Notes, mode: u64, returns: u64, place: u64) {
 
 // A mode of 4, a log byte of 2, and a target beside an expected value that has none.
 fn bad_mode(notes: &mut Notes) {
-    put_update(notes);
+    put_update(notes, 1, 7);
     prepare(notes, 4, 2, 0);
 }
 
 fn bad_log(notes: &mut Notes) {
-    put_update(notes);
+    put_update(notes, 1, 7);
     notes::set_field(notes, 2, 2);
     prepare(notes, 1, 2, 0);
 }
 
 fn beside_none(notes: &mut Notes) {
-    put_update(notes);
-    notes::set_field(notes, 4, 2);
-    notes::set_field(notes, 5, 1);
-    notes::set_field(notes, 6, 5);
+    put_update(notes, 1, 7);
+    put_expected(notes, 2, 1, 5);
     prepare(notes, 1, 2, 0);
 }
 
 // Links to what is no name: the expected target stands before the new one.
 fn no_links(notes: &mut Notes) {
-    put_update(notes);
-    notes::set_field(notes, 4, 4);
-    notes::set_field(notes, 5, 2);
-    notes::set_field(notes, 6, 65537);
-    notes::set_field(notes, 7, 2);
-    notes::set_field(notes, 8, 65536);
+    put_update(notes, 2, 65536);
+    put_expected(notes, 4, 2, 65537);
     prepare(notes, 1, 3, 65537);
 }
 
 // One edit more than a list has.
 fn too_many(notes: &mut Notes) {
-    put_update(notes);
+    put_update(notes, 1, 7);
     let mut left: u64 = 33;
     while left > 0 {
         left -= 1;
@@ -156,20 +165,24 @@ fn too_many(notes: &mut Notes) {
 // ---- while prepared, and while not
 
 fn prepared(notes: &mut Notes) {
-    put_update(notes);
+    put_update(notes, 1, 7);
     prepare(notes, 1, 0, 1);
     prepare(notes, 1, 15, 0);
-    is(notes, Call::LOAD_LOOSE, 0, 1, 5, 15, 0);
-    is(notes, Call::LOAD_PACKED, 1, 1, 5, 15, 0);
+    loose(notes, 1, 5, 15, 0);
+    packed(notes, 1, 1, 15);
+}
+
+fn commit(notes: &mut Notes, committer: u64, returns: u64) {
+    is(notes, Call::COMMIT, committer, 1, 0, returns, 0);
 }
 
 // A committer that is too large is refused, and the transaction stays prepared.
 fn unprepared(notes: &mut Notes) {
-    is(notes, Call::COMMIT, 65536, 1, 0, 2, 0);
-    is(notes, Call::COMMIT, u64::MAX, 1, 0, 2, 0);
+    commit(notes, 65536, 2);
+    commit(notes, u64::MAX, 2);
     is(notes, Call::ROLLBACK, 0, 0, 0, 0, 1);
     is(notes, Call::ROLLBACK, 0, 0, 0, 0, 0);
-    is(notes, Call::COMMIT, 1, 1, 0, 15, 0);
+    commit(notes, 1, 15);
 }
 
 // ---- a full log
@@ -226,13 +239,18 @@ fn add_chain(line: &mut Line, notes: &mut Notes) {
     add(line, 80, b"refs/heads/e", notes, 0, 5);
 }
 
+// A name leads on to another.
+fn link(notes: &mut Notes, from: u64, to: u64) {
+    is(notes, Call::LOAD_LOOSE, from, 2, to, 0, 0);
+}
+
 // Five rows, of which the last has four ancestors.
 fn prepare_chain(notes: &mut Notes) {
-    is(notes, Call::LOAD_LOOSE, 0, 2, 1, 0, 0);
-    is(notes, Call::LOAD_LOOSE, 1, 2, 2, 0, 0);
-    is(notes, Call::LOAD_LOOSE, 2, 2, 3, 0, 0);
-    is(notes, Call::LOAD_LOOSE, 3, 2, 4, 0, 0);
-    put_update(notes);
+    link(notes, 0, 1);
+    link(notes, 1, 2);
+    link(notes, 2, 3);
+    link(notes, 3, 4);
+    put_update(notes, 1, 7);
     notes::set_field(notes, 1, 1);
     prepare(notes, 1, 0, 5);
 }
@@ -288,7 +306,7 @@ fn full_names(line: &mut Line, notes: &mut Notes) {
 // Nor is there with a count of 257. Behind the last name's bytes stands the loose value of name 0: with an object whose number begins
 // with the byte 65 and has zeros behind it, those bytes are a name too, A.
 fn names_257(notes: &mut Notes) {
-    is(notes, Call::LOAD_LOOSE, 0, 1, 65 * 72057594037927936, 0, 0);
+    loose(notes, 1, 65 * 72057594037927936, 0, 0);
     reads(notes, 0);
     asks::put(notes, 6, 2, 257);
     reads(notes, 1);
