@@ -223,6 +223,11 @@ impl Store<'_> {
         View::of(self.region)
     }
 
+    /// The region: to be copied, or kept in a file.
+    pub fn region(&self) -> &Region {
+        self.view().region()
+    }
+
     /// The bytes of a name, where they stand in the region.
     pub fn name_bytes(&self, name: NameNumber) -> Result<&[u8], Refusal> {
         self.view().name_bytes(name)

@@ -69,6 +69,11 @@ impl<'a> View<'a> {
         View { region }
     }
 
+    /// The region: to be copied, or kept in a file.
+    pub fn region(self) -> &'a Region {
+        self.region
+    }
+
     /// The bytes of a name, where they stand in the region.
     pub fn name_bytes(self, name: NameNumber) -> Result<&'a [u8], Refusal> {
         entries::name_bytes(self.region, name.get()).given(|answer| {
