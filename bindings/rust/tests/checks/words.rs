@@ -96,7 +96,68 @@ fn others() {
     same(error.to_string(), "the bytes are no name".to_string());
 }
 
+/// Every refusal that has a number of docs/SPEC.md's table.
+fn every() -> Vec<Refusal> {
+    let (name, target) = (AISLE, object(1));
+    vec![
+        Refusal::BadRegion,
+        Refusal::Malformed,
+        Refusal::NotRegistered { number: 9 },
+        Refusal::ReferenceCycle,
+        Refusal::TooManyRows,
+        Refusal::MultipleEdits { name },
+        Refusal::PackedTransactionAcquire,
+        Refusal::LockAcquire { name },
+        Refusal::DeleteReferenceMustExist { name },
+        Refusal::MustNotExist { name, actual: target, new: target },
+        Refusal::MustExist { name, expected: None },
+        Refusal::ReferenceOutOfDate { name, expected: target, actual: target },
+        Refusal::DeleteMustNotExist { name },
+        Refusal::LogFull,
+        Refusal::WrongState,
+        Refusal::BadName,
+        Refusal::NamesFull,
+        Refusal::WrongLock,
+        Refusal::BadLoad,
+        Refusal::NothingThere,
+    ]
+}
+
+/// 'BadName' as 'BAD_NAME', of what is behind it nothing.
+fn in_capitals(debug: &str) -> String {
+    let word = debug.split(' ').next().unwrap_or("");
+    let parts = word.chars().map(|c| if c.is_uppercase() { format!("_{c}") } else { c.to_uppercase().to_string() });
+    parts.collect::<String>().trim_start_matches('_').to_string()
+}
+
+/// The names and numbers are those of dehlbazin.h, which is read here as text: '#define DEHLBAZIN_BAD_NAME 18'.
+fn header() {
+    let path = concat!(env!("CARGO_MANIFEST_DIR"), "/../../include/dehlbazin.h");
+    let text = done(std::fs::read_to_string(path));
+    let value = |name: &str| {
+        let mut words = text.lines().map(|line| line.split_whitespace().collect::<Vec<_>>());
+        let line = words.find(|line| line.len() > 2 && line[..2] == ["#define", &format!("DEHLBAZIN_{name}")]);
+        line.and_then(|line| line[2].parse::<u32>().ok())
+    };
+    for refusal in every() {
+        same(value(&in_capitals(&format!("{refusal:?}"))), Some(refusal.number()));
+    }
+    for outcome in [Outcome::NoCommitter { writes: 0 }, Outcome::UsedUp { writes: 0 }] {
+        same(value(&in_capitals(&format!("{outcome:?}"))), Some(outcome.number()));
+    }
+    same(value("DONE"), Some(Outcome::AllWritten { writes: 0 }.number()));
+    same(every().len(), 20);
+    same(value("REGION_SIZE"), Some(REGION_SIZE as u32));
+    same(value("LIST_MOST_EDITS"), Some(EditList::MOST_EDITS as u32));
+    let part = |name| value(name).unwrap_or(999);
+    same(part("VERSION_MAJOR") * 1_000_000 + part("VERSION_MINOR") * 1000 + part("VERSION_PATCH"), VERSION);
+    same(format!("{}.{}.{}", part("VERSION_MAJOR"), part("VERSION_MINOR"), part("VERSION_PATCH")), CRATE_VERSION.to_string());
+}
+
+const CRATE_VERSION: &str = env!("CARGO_PKG_VERSION");
+
 pub fn all() {
+    header();
     refusals();
     without_names();
     others();
