@@ -1,6 +1,6 @@
-//! A layout service's use of Dehlbazin: it moves the layout that HEAD leads to, is refused where its expectation is outdated, and
-//! says so in words. A move of two aisles is stopped half way. Then it reads the log.
-//! Run it with: bash tools/test-rust example
+//! A layout service's use of Dehlbazin: it moves the layout that HEAD leads to, is refused where its expectation is outdated,
+//! and says so in words. A move of two aisles is stopped half way. Then it reads the log. Run it with: bash tools/test-rust
+//! example
 
 use dehlbazin::*;
 

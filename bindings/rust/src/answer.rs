@@ -18,7 +18,8 @@ pub(crate) struct Answer {
     pub(crate) record: Record,
 }
 
-/// What a place holds is tested before it is believed: each of these gives `None` for a number that the call does not give there.
+/// What a place holds is tested before it is believed: each of these gives `None` for a number that the call does not give
+/// there.
 impl Answer {
     /// Place `i`, big-endian; 0 past the last one.
     pub(crate) fn place(&self, i: usize) -> u64 {

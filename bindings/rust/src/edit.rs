@@ -80,7 +80,8 @@ pub struct RefEdit {
     pub change: Change,
     /// The name.
     pub name: NameNumber,
-    /// Whether the name's links are followed: the edit is then of the name that they lead to, and each on the way gets a log line.
+    /// Whether the name's links are followed: the edit is then of the name that they lead to, and each on the way gets a log
+    /// line.
     pub deref: bool,
 }
 
@@ -101,6 +102,7 @@ impl RefEdit {
     }
 
     /// The same edit with `deref` set.
+    #[must_use = "the edit itself stays as it was"]
     pub fn through_links(self) -> RefEdit {
         RefEdit { deref: true, ..self }
     }

@@ -1,16 +1,16 @@
-//! The fifteen entries of the archive, and the only `unsafe` of this crate: they are declared here, and each is called here from a
-//! function that is safe to call.
+//! The fifteen entries of the archive, and the only `unsafe` of this crate: they are declared here, and each is called here
+//! from a function that is safe to call.
 //!
 //! Three things hold of every call below, which the archive cannot test (include/dehlbazin.h):
 //! - Each pointer is good for the length beside it, since both are taken from one reference.
 //! - What is lent lies apart. The region is borrowed alone (`&mut`) where the call writes it, so that no other reference leads
 //!   into it. Where the call only reads it (`&`), nothing that is written is lent beside it but the record. The record is a new
 //!   array of [`ask`], which nobody else knows.
-//! - Calls on one region come one after the other, for the same reason: `&mut` is held by one at a time, and calls that only read
-//!   do not disturb each other.
+//! - Calls on one region come one after the other, for the same reason: `&mut` is held by one at a time, and calls that only
+//!   read do not disturb each other.
 //!
-//! The entries unwind never, keep no pointer, and have no memory of their own. Of `u8` every value is good, so whatever they write
-//! is one.
+//! The entries never unwind, keep no pointer, and have no memory of their own. Of `u8` every value is good, so whatever they
+//! write is one.
 #![deny(unsafe_op_in_unsafe_fn)]
 
 use crate::answer::{Answer, Record, ANSWER_SIZE};
@@ -96,7 +96,8 @@ pub(crate) fn start(region: &mut Region, setting: u64) -> Answer {
 
 pub(crate) fn add_name(region: &mut Region, name: &[u8]) -> Answer {
     let (at, size) = (name.as_ptr(), name.len());
-    // SAFETY: the region is borrowed alone, so the name's bytes lie elsewhere; of no bytes none is read. The record is ask's own.
+    // SAFETY: the region is borrowed alone, so the name's bytes lie elsewhere; of no bytes none is read. The record is ask's
+    // own.
     ask(|answer, len| unsafe { dehlbazin_add_name(region.as_mut_ptr(), REGION_SIZE, at, size, answer, len) })
 }
 

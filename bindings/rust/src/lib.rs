@@ -1,7 +1,7 @@
 //! Dehlbazin: the refs of a site's aisle layouts, in one region of bytes that the caller lends.
 //!
-//! This is a safe API over the archive `libdehlbazin.a`, with the names of gix-ref's transactions. docs/SPEC.md says what the calls
-//! mean.
+//! This is a safe API over the archive `libdehlbazin.a`, with the names of gix-ref's transactions. docs/SPEC.md says what the
+//! calls mean.
 //!
 //! ```
 //! use dehlbazin::{Committer, EditList, ObjectNumber, PackedRefs, PreviousValue, RefEdit, Setting, Store, Target};
@@ -21,11 +21,11 @@
 //! # Ok::<(), dehlbazin::Refusal>(())
 //! ```
 //!
-//! - Each call gives a [`Result`], with a [`Refusal`] that holds what comes with its number. Nothing here panics. A commit that is
-//!   stopped on its way is no refusal: it is an [`Outcome`], with the number of writes that were made.
+//! - Each call gives a [`Result`], with a [`Refusal`] that holds what comes with its number. Nothing here panics. A commit that
+//!   is stopped on its way is no refusal: it is an [`Outcome`], with the number of writes that were made.
 //! - A [`Store`] keeps no copy of anything: each call reads the region, and tests it whole first.
-//! - What no call can test, the borrow rules see to: that what is lent is there, that nothing overlaps, and that calls on one region
-//!   come one after the other. A [`NameNumber`] is no [`ObjectNumber`], and no number is shortened.
+//! - What no call can test, the borrow rules see to: that what is lent is there, that nothing overlaps, and that calls on one
+//!   region come one after the other. A [`NameNumber`] is no [`ObjectNumber`], and no number is shortened.
 #![deny(missing_docs)]
 #![deny(unsafe_code)] // but for entries
 #![deny(unsafe_op_in_unsafe_fn)]

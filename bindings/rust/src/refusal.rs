@@ -5,9 +5,9 @@ use crate::{NameNumber, Target};
 
 /// Why a call is refused, with what comes with it. The store is as it was.
 ///
-/// It borrows nothing. [`Display`](std::fmt::Display) speaks of names by their numbers, and [`in_words`](Refusal::in_words) by their
-/// bytes, which it looks up in the store. A name keeps its number and its bytes, so the words are the same at any later time, unless
-/// the store is started anew.
+/// It borrows nothing. [`Display`](std::fmt::Display) speaks of names by their numbers, and [`in_words`](Refusal::in_words) by
+/// their bytes, which it looks up in the store. A name keeps its number and its bytes, so the words are the same at any later
+/// time, unless the store is started anew.
 ///
 /// ```
 /// use dehlbazin::{EditList, ObjectNumber, PackedRefs, PreviousValue, RefEdit, Refusal, Setting, Store, Target};

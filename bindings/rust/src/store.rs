@@ -127,8 +127,8 @@ impl<'a> Store<'a> {
         Store::start(bytes.try_into().map_err(|_| Refusal::BadRegion)?, setting)
     }
 
-    /// Takes up the store that stands there. Refused with 1 where the bytes are no good store. A transaction that was left prepared
-    /// stays so: [`commit`](Store::commit) or [`rollback`](Store::rollback) end it.
+    /// Takes up the store that stands there. Refused with 1 where the bytes are no good store. A transaction that was left
+    /// prepared stays so: [`commit`](Store::commit) or [`rollback`](Store::rollback) end it.
     pub fn open(region: &'a mut Region) -> Result<Store<'a>, Refusal> {
         View::open(region)?;
         Ok(Store { region })
@@ -152,8 +152,8 @@ impl<'a> Store<'a> {
 
 /// A store is changed.
 impl Store<'_> {
-    /// The number of a name, which is added where it is new. Refused with 18 where the bytes are no name, with 19 where it is new and
-    /// 256 are held.
+    /// The number of a name, which is added where it is new. Refused with 18 where the bytes are no name, with 19 where it is
+    /// new and 256 are held.
     pub fn add_name(&mut self, name: impl AsRef<[u8]>) -> Result<NameNumber, Refusal> {
         entries::add_name(self.region, name.as_ref()).given(|answer| answer.name(0))
     }

@@ -13,6 +13,11 @@ mod step;
 mod tally;
 mod words;
 
+/// A part that ends early, at something that should have been done and was not, has failed once more. The others are still run.
+fn run(part: &str, all: impl FnOnce() + std::panic::UnwindSafe) {
+    tally::check(std::panic::catch_unwind(all).is_ok(), &format!("{part} came to its end"));
+}
+
 fn main() {
     let numbers: Vec<u64> = std::env::args().skip(1).filter_map(|word| word.parse().ok()).collect();
     let parts: [(&str, fn()); 5] =
@@ -24,10 +29,11 @@ fn main() {
         before = passed + failed;
     };
     for (part, all) in parts {
-        all();
+        run(part, all);
         say(part);
     }
-    same::all(numbers.first().copied().unwrap_or(20_000), numbers.get(1).copied().unwrap_or(1));
+    let (turns, seed) = (numbers.first().copied().unwrap_or(20_000), numbers.get(1).copied().unwrap_or(1));
+    run("same", move || same::all(turns, seed));
     say("same");
     let (passed, failed) = tally::counts();
     println!("{passed} passed, {failed} failed");

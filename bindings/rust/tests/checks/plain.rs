@@ -1,5 +1,5 @@
-//! The entries of the archive as include/dehlbazin.h has them, declared a second time: so that what the crate declares and passes
-//! is compared with something that does not go through it.
+//! The entries of the archive as include/dehlbazin.h has them, declared a second time: so that what the crate declares and
+//! passes is compared with something that does not go through it.
 
 use dehlbazin::Region;
 
@@ -10,12 +10,13 @@ pub fn place(record: &Record, i: usize) -> u64 {
     u64::from_be_bytes(record[8 * i..8 * i + 8].try_into().unwrap())
 }
 
-/// Declares an entry, and a function that lends it what it was lent: a region, bytes and a record, three references that lie apart.
+/// Declares an entry, and a function that lends it what it was lent: a region, bytes and a record, three references that lie
+/// apart.
 macro_rules! entry {
     ($entry:ident, $name:ident, mut $(, [$bytes:ident])? $(, $number:ident)*) => {
         pub fn $name(region: &mut Region, $($bytes: &[u8],)? $($number: u64,)* record: &mut Record) -> u32 {
             extern "C" {
-                fn $entry(r: *mut u8, rl: usize, $($bytes: *const u8, len: usize,)? $($number: u64,)* a: *mut u8, al: usize) -> u32;
+                fn $entry(r: *mut u8, l: usize, $($bytes: *const u8, n: usize,)? $($number: u64,)* a: *mut u8, k: usize) -> u32;
             }
             let (at, size) = (region.as_mut_ptr(), region.len());
             // SAFETY: each pointer is good for the length beside it.
@@ -25,7 +26,7 @@ macro_rules! entry {
     ($entry:ident, $name:ident, read $(, $number:ident)*) => {
         pub fn $name(region: &Region, $($number: u64,)* record: &mut Record) -> u32 {
             extern "C" {
-                fn $entry(r: *const u8, rl: usize, $($number: u64,)* a: *mut u8, al: usize) -> u32;
+                fn $entry(r: *const u8, l: usize, $($number: u64,)* a: *mut u8, k: usize) -> u32;
             }
             // SAFETY: each pointer is good for the length beside it.
             unsafe { $entry(region.as_ptr(), region.len(), $($number,)* record.as_mut_ptr(), record.len()) }

@@ -95,8 +95,9 @@ impl Pair {
     fn hold(&mut self, step: &Step, mut transaction: Transaction<'_>, dice: &mut Dice) {
         let rows = transaction.row_count();
         self.compare(step, reply(Ok(rows), |rows| vec![rows]), transaction.store().region());
-        for _ in 0..dice.below(4) {
-            let step = some_step_meanwhile(dice, self.names);
+        let reads = (0..rows.min(8) + 1).map(Step::ReadRow);
+        let others = (0..dice.below(4)).map(|_| some_step_meanwhile(dice, self.names));
+        for step in reads.chain(others).collect::<Vec<_>>() {
             let typed = make_meanwhile(&step, &mut transaction);
             self.compare(&step, typed, transaction.store().region());
         }
