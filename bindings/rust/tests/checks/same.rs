@@ -150,6 +150,10 @@ fn some_object(dice: &mut Dice) -> u64 {
 }
 
 fn some_bytes(dice: &mut Dice) -> Vec<u8> {
+    const ANY: &[u8] = b"refs/heads/HEAD_.-lock\0\xff";
+    if dice.once_in(8) {
+        return (0..dice.below(70)).map(|_| ANY[dice.below(ANY.len() as u64) as usize]).collect();
+    }
     const GOOD: [&str; 11] = [
         "HEAD",
         "refs/heads/a",
