@@ -17,6 +17,8 @@ struct Pair {
     numbers: BTreeMap<u32, u64>,
     done: [u64; KINDS],
     transactions: u64,
+    children: u64,
+    leaves: u64,
 }
 
 /// Which of the fifteen.
@@ -45,7 +47,16 @@ impl Pair {
         let mut region = Box::new([0; REGION_SIZE]);
         Store::start(&mut region, Setting::Normal).unwrap();
         let plain = region.clone();
-        Pair { typed: region, plain, names: 0, numbers: BTreeMap::new(), done: [0; KINDS], transactions: 0 }
+        Pair {
+            typed: region,
+            plain,
+            names: 0,
+            numbers: BTreeMap::new(),
+            done: [0; KINDS],
+            transactions: 0,
+            children: 0,
+            leaves: 0,
+        }
     }
 
     /// Makes it plainly, and compares with what the crate answered.
@@ -61,6 +72,10 @@ impl Pair {
         match step {
             Step::Start(_) => self.names = 0,
             Step::AddName(_) => self.names = self.names.max(plain.1[0] as u16 + 1),
+            Step::ReadRow(_) => {
+                self.children += plain.1[10];
+                self.leaves += u64::from(plain.1[12] != 0);
+            }
             _ => (),
         }
     }
@@ -79,7 +94,12 @@ impl Pair {
 
     /// A transaction that is held meanwhile, and ended in one of three ways.
     fn transaction(&mut self, dice: &mut Dice) {
-        let step = some_prepare(dice, self.names);
+        let mut step = some_prepare(dice, self.names);
+        if dice.once_in(2) {
+            let chain = some_chain(dice, self.names);
+            chain.iter().for_each(|step| self.step(step));
+            step = Step::Prepare(vec![some_edit_through(dice, self.names)], 1 + dice.below(3));
+        }
         let mut region = std::mem::replace(&mut self.typed, Box::new([0; REGION_SIZE]));
         let mut store = Store::open(&mut region).unwrap();
         if let Step::Prepare(edits, mode) = &step {
@@ -205,6 +225,30 @@ fn some_prepare(dice: &mut Dice, names: u16) -> Step {
     Step::Prepare((0..count).map(|_| some_edit(dice, names)).collect(), 1 + dice.below(3))
 }
 
+/// Name 0 leads through a link or two to an object, or to nothing, and nobody holds what is on the way.
+fn some_chain(dice: &mut Dice, names: u16) -> Vec<Step> {
+    let hops = (1 + dice.below(2) as u16).min(names.saturating_sub(1));
+    let end = if dice.once_in(4) { (0, 0) } else { (1, some_object(dice)) };
+    let mut steps = vec![Step::Rollback, Step::UnlockPacked, Step::LoadLoose(hops, end)];
+    for name in 0..=hops {
+        steps.push(Step::UnlockName(name));
+        if name < hops {
+            steps.push(Step::LoadLoose(name, (2, u64::from(name) + 1)));
+        }
+    }
+    steps
+}
+
+fn some_edit_through(dice: &mut Dice, names: u16) -> Fields {
+    let mut edit = some_edit(dice, names);
+    edit.name = 0;
+    edit.deref = true;
+    if !dice.once_in(3) {
+        (edit.expected, edit.expected_target) = (0, (0, 0));
+    }
+    edit
+}
+
 fn some_commit(dice: &mut Dice) -> (u16, u64) {
     let committer = if dice.once_in(6) { 0 } else { 1 + dice.below(65535) as u16 };
     (committer, if dice.once_in(2) { dice.below(6) } else { EVERY_WRITE })
@@ -225,9 +269,9 @@ fn some_step_meanwhile(dice: &mut Dice, names: u16) -> Step {
     let name = some_name(dice, names);
     match dice.below(9) {
         0 => Step::AddName(some_bytes(dice)),
-        1 => Step::LockName(name),
+        1 if dice.once_in(3) => Step::LockName(name),
         2 => Step::UnlockName(name),
-        3 => Step::LockPacked,
+        3 if dice.once_in(3) => Step::LockPacked,
         4 => Step::UnlockPacked,
         5 => Step::NameBytes(name),
         6 => Step::ReadName(name),
@@ -278,5 +322,8 @@ pub fn all(calls: u64, seed: u64) {
     for (kind, &done) in pair.done.iter().enumerate() {
         check(done > calls / 2000, &format!("call {kind} was done {done} times"));
     }
-    check(pair.transactions > calls / 50, &format!("{} transactions were held", pair.transactions));
+    for (what, count) in [("transactions", pair.transactions), ("children", pair.children), ("leaves", pair.leaves)] {
+        println!("same: {count} {what}");
+        check(count > calls / 50, &format!("{count} {what} were met"));
+    }
 }
