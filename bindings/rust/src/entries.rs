@@ -1,0 +1,168 @@
+//! The fifteen entries of the archive, and the only `unsafe` of this crate: they are declared here, and each is called here
+//! from a function that is safe to call.
+//!
+//! Three things hold of every call below, which the archive cannot test (include/dehlbazin.h):
+//! - Each pointer is good for the length beside it, since both are taken from one reference.
+//! - What is lent lies apart. The region is borrowed alone (`&mut`) where the call writes it, so that no other reference leads
+//!   into it. Where the call only reads it (`&`), nothing that is written is lent beside it but the record. The record is a new
+//!   array of [`ask`], which nobody else knows.
+//! - Calls on one region come one after the other, for the same reason: `&mut` is held by one at a time, and calls that only
+//!   read do not disturb each other.
+//!
+//! The entries never unwind, keep no pointer, and have no memory of their own. Of `u8` every value is good, so whatever they
+//! write is one.
+#![deny(unsafe_op_in_unsafe_fn)]
+
+use crate::answer::{Answer, Record, ANSWER_SIZE};
+use crate::Region;
+
+/// The size of a region, which has one layout.
+pub const REGION_SIZE: usize = 49_549;
+
+extern "C" {
+    fn dehlbazin_start(region: *mut u8, region_len: usize, setting: u64, answer: *mut u8, answer_len: usize) -> u32;
+    fn dehlbazin_add_name(
+        region: *mut u8,
+        region_len: usize,
+        name: *const u8,
+        name_len: usize,
+        answer: *mut u8,
+        answer_len: usize,
+    ) -> u32;
+    fn dehlbazin_name_bytes(region: *const u8, region_len: usize, name: u64, answer: *mut u8, answer_len: usize) -> u32;
+    fn dehlbazin_load_loose(
+        region: *mut u8,
+        region_len: usize,
+        name: u64,
+        kind: u64,
+        number: u64,
+        answer: *mut u8,
+        answer_len: usize,
+    ) -> u32;
+    fn dehlbazin_load_packed(
+        region: *mut u8,
+        region_len: usize,
+        name: u64,
+        kind: u64,
+        number: u64,
+        answer: *mut u8,
+        answer_len: usize,
+    ) -> u32;
+    fn dehlbazin_lock_name(region: *mut u8, region_len: usize, name: u64, answer: *mut u8, answer_len: usize) -> u32;
+    fn dehlbazin_unlock_name(region: *mut u8, region_len: usize, name: u64, answer: *mut u8, answer_len: usize) -> u32;
+    fn dehlbazin_lock_packed(region: *mut u8, region_len: usize, answer: *mut u8, answer_len: usize) -> u32;
+    fn dehlbazin_unlock_packed(region: *mut u8, region_len: usize, answer: *mut u8, answer_len: usize) -> u32;
+    fn dehlbazin_prepare(
+        region: *mut u8,
+        region_len: usize,
+        list: *const u8,
+        list_len: usize,
+        mode: u64,
+        answer: *mut u8,
+        answer_len: usize,
+    ) -> u32;
+    fn dehlbazin_commit(
+        region: *mut u8,
+        region_len: usize,
+        committer: u64,
+        allowance: u64,
+        answer: *mut u8,
+        answer_len: usize,
+    ) -> u32;
+    fn dehlbazin_rollback(region: *mut u8, region_len: usize, answer: *mut u8, answer_len: usize) -> u32;
+    fn dehlbazin_read_name(region: *const u8, region_len: usize, name: u64, answer: *mut u8, answer_len: usize) -> u32;
+    fn dehlbazin_read_line(
+        region: *const u8,
+        region_len: usize,
+        name: u64,
+        place: u64,
+        answer: *mut u8,
+        answer_len: usize,
+    ) -> u32;
+    fn dehlbazin_read_row(region: *const u8, region_len: usize, place: u64, answer: *mut u8, answer_len: usize) -> u32;
+}
+
+/// Makes a call with a record of the right size, which it fills.
+fn ask(call: impl FnOnce(*mut u8, usize) -> u32) -> Answer {
+    let mut record: Record = [0; ANSWER_SIZE];
+    let number = call(record.as_mut_ptr(), record.len());
+    Answer { number, record }
+}
+
+pub(crate) fn start(region: &mut Region, setting: u64) -> Answer {
+    // SAFETY: the region is borrowed alone, and the record is ask's own.
+    ask(|answer, len| unsafe { dehlbazin_start(region.as_mut_ptr(), REGION_SIZE, setting, answer, len) })
+}
+
+pub(crate) fn add_name(region: &mut Region, name: &[u8]) -> Answer {
+    let (at, size) = (name.as_ptr(), name.len());
+    // SAFETY: the region is borrowed alone, so the name's bytes lie elsewhere; of no bytes none is read. The record is ask's
+    // own.
+    ask(|answer, len| unsafe { dehlbazin_add_name(region.as_mut_ptr(), REGION_SIZE, at, size, answer, len) })
+}
+
+pub(crate) fn name_bytes(region: &Region, name: u64) -> Answer {
+    // SAFETY: the region is only read, and the record is ask's own.
+    ask(|answer, len| unsafe { dehlbazin_name_bytes(region.as_ptr(), REGION_SIZE, name, answer, len) })
+}
+
+pub(crate) fn load_loose(region: &mut Region, name: u64, kind: u64, number: u64) -> Answer {
+    // SAFETY: the region is borrowed alone, and the record is ask's own.
+    ask(|answer, len| unsafe { dehlbazin_load_loose(region.as_mut_ptr(), REGION_SIZE, name, kind, number, answer, len) })
+}
+
+pub(crate) fn load_packed(region: &mut Region, name: u64, kind: u64, number: u64) -> Answer {
+    // SAFETY: the region is borrowed alone, and the record is ask's own.
+    ask(|answer, len| unsafe { dehlbazin_load_packed(region.as_mut_ptr(), REGION_SIZE, name, kind, number, answer, len) })
+}
+
+pub(crate) fn lock_name(region: &mut Region, name: u64) -> Answer {
+    // SAFETY: the region is borrowed alone, and the record is ask's own.
+    ask(|answer, len| unsafe { dehlbazin_lock_name(region.as_mut_ptr(), REGION_SIZE, name, answer, len) })
+}
+
+pub(crate) fn unlock_name(region: &mut Region, name: u64) -> Answer {
+    // SAFETY: the region is borrowed alone, and the record is ask's own.
+    ask(|answer, len| unsafe { dehlbazin_unlock_name(region.as_mut_ptr(), REGION_SIZE, name, answer, len) })
+}
+
+pub(crate) fn lock_packed(region: &mut Region) -> Answer {
+    // SAFETY: the region is borrowed alone, and the record is ask's own.
+    ask(|answer, len| unsafe { dehlbazin_lock_packed(region.as_mut_ptr(), REGION_SIZE, answer, len) })
+}
+
+pub(crate) fn unlock_packed(region: &mut Region) -> Answer {
+    // SAFETY: the region is borrowed alone, and the record is ask's own.
+    ask(|answer, len| unsafe { dehlbazin_unlock_packed(region.as_mut_ptr(), REGION_SIZE, answer, len) })
+}
+
+pub(crate) fn prepare(region: &mut Region, list: &[u8], mode: u64) -> Answer {
+    let (at, size) = (list.as_ptr(), list.len());
+    // SAFETY: the region is borrowed alone, so the list's bytes lie elsewhere, and the record is ask's own.
+    ask(|answer, len| unsafe { dehlbazin_prepare(region.as_mut_ptr(), REGION_SIZE, at, size, mode, answer, len) })
+}
+
+pub(crate) fn commit(region: &mut Region, committer: u64, allowance: u64) -> Answer {
+    // SAFETY: the region is borrowed alone, and the record is ask's own.
+    ask(|answer, len| unsafe { dehlbazin_commit(region.as_mut_ptr(), REGION_SIZE, committer, allowance, answer, len) })
+}
+
+pub(crate) fn rollback(region: &mut Region) -> Answer {
+    // SAFETY: the region is borrowed alone, and the record is ask's own.
+    ask(|answer, len| unsafe { dehlbazin_rollback(region.as_mut_ptr(), REGION_SIZE, answer, len) })
+}
+
+pub(crate) fn read_name(region: &Region, name: u64) -> Answer {
+    // SAFETY: the region is only read, and the record is ask's own.
+    ask(|answer, len| unsafe { dehlbazin_read_name(region.as_ptr(), REGION_SIZE, name, answer, len) })
+}
+
+pub(crate) fn read_line(region: &Region, name: u64, place: u64) -> Answer {
+    // SAFETY: the region is only read, and the record is ask's own.
+    ask(|answer, len| unsafe { dehlbazin_read_line(region.as_ptr(), REGION_SIZE, name, place, answer, len) })
+}
+
+pub(crate) fn read_row(region: &Region, place: u64) -> Answer {
+    // SAFETY: the region is only read, and the record is ask's own.
+    ask(|answer, len| unsafe { dehlbazin_read_row(region.as_ptr(), REGION_SIZE, place, answer, len) })
+}

@@ -1,0 +1,238 @@
+//! Each of the fifteen calls, done and refused, through its typed form.
+
+use crate::site::*;
+use crate::tally::*;
+use dehlbazin::*;
+
+const NOBODYS: NameNumber = NameNumber(65535);
+const NOT_THERE: Refusal = Refusal::NotRegistered { number: 65535 };
+
+fn start() {
+    let mut region = Box::new([0xff; REGION_SIZE]);
+    for (setting, number) in [(Setting::Never, 0), (Setting::Normal, 1), (Setting::Always, 2)] {
+        done(Store::start(&mut region, setting));
+        same((region[0], region[5]), (1, number));
+    }
+    let mut longer = vec![0; REGION_SIZE + 1];
+    refused(Store::start_in(&mut longer, Setting::Normal), Refusal::BadRegion);
+    refused(Store::start_in(&mut longer[..REGION_SIZE - 1], Setting::Normal), Refusal::BadRegion);
+    refused(Store::start_in(&mut [], Setting::Normal), Refusal::BadRegion);
+    check(longer.iter().all(|&byte| byte == 0), "a refused start changes nothing");
+    let mut store = done(Store::start_in(&mut longer[1..], Setting::Normal)); // it need not be aligned
+    done(store.add_name("HEAD"));
+    done(store.restart(Setting::Always));
+    refused(store.name_bytes(HEAD), Refusal::NotRegistered { number: 0 });
+}
+
+fn open() {
+    let mut region = site(&["HEAD"]);
+    same(done(done(Store::open(&mut region)).name(HEAD)), "HEAD");
+    same(done(done(View::open(&region)).name_bytes(HEAD)), b"HEAD");
+    refused(View::open_in(&region[1..]), Refusal::BadRegion);
+    refused(Store::open_in(&mut region[1..]), Refusal::BadRegion);
+    refused(Store::open_in(&mut []), Refusal::BadRegion);
+    done(Store::open_in(&mut region[..]));
+    let kept = *done(Store::open(&mut region)).region();
+    check(kept == *region, "a store shows its region");
+    region[0] = 2;
+    refused(Store::open(&mut region), Refusal::BadRegion);
+    refused(View::open(&region), Refusal::BadRegion);
+}
+
+fn names() {
+    let mut region = site(&[]);
+    let range = region.as_ptr_range();
+    let mut store = done(Store::open(&mut region));
+    same(done(store.add_name("HEAD")), HEAD);
+    same(done(store.add_name(b"refs/heads/aisle")), AISLE);
+    same(done(store.add_name(String::from("HEAD"))), HEAD);
+    let bytes = done(store.name_bytes(AISLE));
+    same(bytes, b"refs/heads/aisle");
+    let found = bytes.as_ptr_range();
+    check(range.start < found.start && found.end < range.end, "they stand in the region");
+    refused(store.name_bytes(NOBODYS), NOT_THERE);
+    refused(store.name(NOBODYS), NOT_THERE);
+    for bad in [&b""[..], b"head", b"refs/a..b", b"H\0", b"\xff", b"refs/", &[b'A'; 65], &[b'A'; 100_000]] {
+        refused(store.add_name(bad), Refusal::BadName);
+    }
+    same(done(store.add_name([b'A'; 64])), NameNumber(2));
+    for n in 3..256 {
+        done(store.add_name(format!("refs/n/{n}")));
+    }
+    refused(store.add_name("refs/n/256"), Refusal::NamesFull);
+    same(done(store.add_name("refs/n/255")), NameNumber(255));
+}
+
+fn loads() {
+    let mut region = site(&["HEAD", "refs/heads/aisle"]);
+    let mut store = done(Store::open(&mut region));
+    let largest = object(u64::MAX);
+    done(store.load_loose(AISLE, largest));
+    same(store.read_name(AISLE), Ok(Some(largest)));
+    done(store.load_loose(HEAD, link(AISLE)));
+    same(store.read_name(HEAD), Ok(Some(link(AISLE))));
+    let three = ObjectNumber::new(3).unwrap();
+    done(store.load_packed(AISLE, three));
+    same(store.read_name(AISLE), Ok(Some(largest)));
+    for loose in [Loose::Broken, Loose::None, None.into()] {
+        done(store.load_loose(AISLE, loose));
+        same(store.read_name(AISLE), Ok(Some(three.into())));
+    }
+    done(store.load_packed(AISLE, None));
+    same(store.read_name(AISLE), Ok(None));
+    refused(store.read_name(NOBODYS), NOT_THERE);
+    refused(store.load_loose(NOBODYS, Loose::None), NOT_THERE);
+    refused(store.load_loose(HEAD, link(NOBODYS)), NOT_THERE);
+    refused(store.load_packed(NOBODYS, three), NOT_THERE);
+    refused(store.load_packed(HEAD, three), Refusal::BadLoad);
+    done(store.prepare(&EditList::new(), MODE)).leave_prepared();
+    refused(store.load_loose(AISLE, largest), Refusal::WrongState);
+    refused(store.load_packed(AISLE, three), Refusal::WrongState);
+}
+
+fn locks() {
+    let mut region = site(&["HEAD"]);
+    let mut store = done(Store::open(&mut region));
+    refused(store.unlock_name(HEAD), Refusal::WrongLock);
+    done(store.lock_name(HEAD));
+    refused(store.lock_name(HEAD), Refusal::WrongLock);
+    done(store.unlock_name(HEAD));
+    refused(store.lock_name(NOBODYS), NOT_THERE);
+    refused(store.unlock_name(NOBODYS), NOT_THERE);
+    refused(store.unlock_packed(), Refusal::WrongLock);
+    done(store.lock_packed());
+    refused(store.lock_packed(), Refusal::WrongLock);
+    done(store.unlock_packed());
+}
+
+/// A list is refused, and no byte is changed.
+#[track_caller]
+fn refuses(store: &mut Store<'_>, edits: &[RefEdit], refusal: Refusal) {
+    let before = *store.region();
+    refused(store.prepare(&list(edits), MODE), refusal);
+    check(*store.region() == before, "a refusal changes no byte");
+}
+
+/// The refusals that what is there gives.
+fn prepare_values() {
+    use PreviousValue::*;
+    let mut region = marked();
+    let mut store = done(Store::open(&mut region));
+    let tag = done(store.add_name("refs/tags/spring"));
+    done(store.load_loose(AISLE, object(5)));
+    let unknown = NameNumber(3);
+    let no_such = Refusal::NotRegistered { number: 3 };
+    refuses(&mut store, &[RefEdit::update(unknown, ANY, object(1))], no_such);
+    refuses(&mut store, &[RefEdit::update(AISLE, ANY, link(unknown))], no_such);
+    refuses(&mut store, &[RefEdit::delete(AISLE, MustExistAndMatch(link(unknown)))], no_such);
+    let twice = [RefEdit::update(AISLE, ANY, object(6)), RefEdit::delete(AISLE, ANY)];
+    refuses(&mut store, &twice, Refusal::MultipleEdits { name: AISLE });
+    let nothing = Refusal::DeleteReferenceMustExist { name: tag };
+    refuses(&mut store, &[RefEdit::delete(tag, MustExist)], nothing);
+    let found = Refusal::MustNotExist { name: AISLE, actual: object(5), new: link(tag) };
+    refuses(&mut store, &[RefEdit::update(AISLE, MustNotExist, link(tag))], found);
+    let missing = Refusal::MustExist { name: tag, expected: None };
+    refuses(&mut store, &[RefEdit::update(tag, MustExist, object(6))], missing);
+    let missing = Refusal::MustExist { name: tag, expected: Some(link(HEAD)) };
+    refuses(&mut store, &[RefEdit::update(tag, MustExistAndMatch(link(HEAD)), object(6))], missing);
+    let other = Refusal::ReferenceOutOfDate { name: HEAD, expected: object(9), actual: link(AISLE) };
+    refuses(&mut store, &[RefEdit::update(HEAD, ExistingMustMatch(object(9)), object(6))], other);
+    let never = Refusal::DeleteMustNotExist { name: AISLE };
+    refuses(&mut store, &[RefEdit::delete(AISLE, MustNotExist)], never);
+}
+
+/// The refusals that locks, links and a prepared transaction give.
+fn prepare_others() {
+    let mut region = marked();
+    let mut store = done(Store::open(&mut region));
+    let through = RefEdit::update(HEAD, ANY, object(6)).through_links();
+    done(store.lock_name(AISLE));
+    refuses(&mut store, &[through], Refusal::LockAcquire { name: HEAD });
+    done(store.unlock_name(AISLE));
+    done(store.lock_packed());
+    refuses(&mut store, &[RefEdit::update(AISLE, ANY, object(6))], Refusal::PackedTransactionAcquire);
+    done(store.unlock_packed());
+    done(store.load_loose(AISLE, link(HEAD)));
+    refuses(&mut store, &[through], Refusal::ReferenceCycle);
+    let remove = PackedRefs::DeletionsAndNonSymbolicUpdatesRemoveLooseSourceReference;
+    let transaction = done(store.prepare(&list(&[RefEdit::update(AISLE, ANY, object(8))]), remove));
+    same(transaction.row_count(), 1);
+    transaction.leave_prepared();
+    refuses(&mut store, &[], Refusal::WrongState);
+}
+
+/// The log has room for 1,024 lines: 32 lists of 32 moves.
+fn log_full() {
+    let mut region = site(&[]);
+    let mut store = done(Store::open(&mut region));
+    let names: Vec<_> = (0..32).map(|n| done(store.add_name(format!("refs/heads/aisle-{n}")))).collect();
+    for round in 1..=32 {
+        let moves = done(EditList::of(names.iter().map(|&name| RefEdit::update(name, ANY, object(round)))));
+        same(done(done(store.prepare(&moves, MODE)).commit(Committer::new(65535).unwrap())).writes(), 64);
+    }
+    same(done(store.lines(names[31])).count(), 32);
+    refuses(&mut store, &[RefEdit::update(names[0], ANY, object(99))], Refusal::LogFull);
+    refused(store.read_line(names[0], 32), Refusal::NothingThere);
+}
+
+fn commit() {
+    let mut region = marked();
+    let mut store = done(Store::open(&mut region));
+    refused(store.commit(planner()), Refusal::WrongState);
+    let log = LogChange { message: Message(3), ..LogChange::default() };
+    let edits = list(&[RefEdit::update_with(log, HEAD, ANY, object(7)).through_links()]);
+    let prepare = |store: &mut Store<'_>, committer: Option<Committer>, allowance| {
+        done(done(store.prepare(&edits, MODE)).commit_within(committer, allowance))
+    };
+    let outcome = prepare(&mut store, None, EVERY_WRITE);
+    same((outcome, outcome.number()), (Outcome::NoCommitter { writes: 0 }, 16));
+    let outcome = prepare(&mut store, Some(planner()), 2);
+    same((outcome, outcome.number()), (Outcome::UsedUp { writes: 2 }, 17));
+    check(!outcome.all_written(), "not all written");
+    same(store.read_name(AISLE), Ok(None));
+    let outcome = prepare(&mut store, Some(planner()), 3);
+    same((outcome, outcome.number(), outcome.all_written()), (Outcome::AllWritten { writes: 3 }, 0, true));
+    same(store.read_name(AISLE), Ok(Some(object(7))));
+    lines_are(&store, HEAD, &[[0, 7, 1, 3], [0, 7, 1, 3]]);
+    refused(store.read_line(NOBODYS, 0), NOT_THERE);
+    refused(store.read_line(HEAD, 2), Refusal::NothingThere);
+    refused(store.read_line(HEAD, 1 << 32), Refusal::NothingThere);
+}
+
+fn rows() {
+    let mut region = marked();
+    let mut store = done(Store::open(&mut region));
+    refused(store.read_row(0), Refusal::NothingThere);
+    same(store.rollback(), Ok(0));
+    done(store.load_loose(AISLE, object(5)));
+    let expected = PreviousValue::MustExistAndMatch(object(5));
+    let log = LogChange { mode: RefLog::AndReference, force_create_reflog: true, message: Message(513) };
+    let edit = RefEdit::update_with(log, HEAD, expected, object(7)).through_links();
+    let transaction = done(store.prepare(&list(&[edit]), MODE));
+    let found = PreviousValue::MustExistAndMatch(link(AISLE));
+    let only = LogChange { mode: RefLog::Only, ..log };
+    let change = Change::Update { log: only, expected: found, new: object(7) };
+    let row = Row { name: HEAD, change, parent: None, leaf_previous: Some(ObjectNumber::new(5).unwrap()) };
+    same(transaction.store().read_row(0), Ok(row));
+    let change = Change::Update { log, expected, new: object(7) };
+    same(transaction.store().read_row(1), Ok(Row { name: AISLE, change, parent: Some(0), leaf_previous: None }));
+    refused(transaction.store().read_row(2), Refusal::NothingThere);
+    same(transaction.rollback(), Ok(2));
+    let removal = RefEdit { change: Change::Delete { expected: ANY, log: RefLog::Only }, name: AISLE, deref: false };
+    done(store.prepare(&list(&[removal]), MODE)).leave_prepared();
+    same(done(store.read_row(0)).change, Change::Delete { expected, log: RefLog::Only });
+    same(store.rollback(), Ok(1));
+}
+
+pub fn all() {
+    start();
+    open();
+    names();
+    loads();
+    locks();
+    prepare_values();
+    prepare_others();
+    log_full();
+    commit();
+    rows();
+}

@@ -1,0 +1,41 @@
+//! The checks of the crate, over the archive. Each comparison is counted; the last line is 'N passed, M failed'.
+//!   checks [TURNS [SEED]]   TURNS random turns are made both ways (20000 if not said)
+
+mod calls;
+mod dice;
+mod edits;
+mod life;
+mod marked;
+mod plain;
+mod same;
+mod site;
+mod step;
+mod tally;
+mod words;
+
+/// A part that ends early, at something that should have been done and was not, has failed once more. The others are still run.
+fn run(part: &str, all: impl FnOnce() + std::panic::UnwindSafe) {
+    tally::check(std::panic::catch_unwind(all).is_ok(), &format!("{part} came to its end"));
+}
+
+fn main() {
+    let numbers: Vec<u64> = std::env::args().skip(1).filter_map(|word| word.parse().ok()).collect();
+    let parts: [(&str, fn()); 5] =
+        [("calls", calls::all), ("edits", edits::all), ("life", life::all), ("words", words::all), ("marked", marked::all)];
+    let mut before = 0;
+    let mut say = |part: &str| {
+        let (passed, failed) = tally::counts();
+        println!("{part}: {}", passed + failed - before);
+        before = passed + failed;
+    };
+    for (part, all) in parts {
+        run(part, all);
+        say(part);
+    }
+    let (turns, seed) = (numbers.first().copied().unwrap_or(20_000), numbers.get(1).copied().unwrap_or(1));
+    run("same", move || same::all(turns, seed));
+    say("same");
+    let (passed, failed) = tally::counts();
+    println!("{passed} passed, {failed} failed");
+    std::process::exit(i32::from(failed > 0));
+}

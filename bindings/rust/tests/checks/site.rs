@@ -1,0 +1,51 @@
+//! Stores to begin with.
+
+use crate::tally::{done, same};
+use dehlbazin::*;
+
+pub const HEAD: NameNumber = NameNumber(0);
+pub const AISLE: NameNumber = NameNumber(1);
+pub const MODE: PackedRefs = PackedRefs::DeletionsOnly;
+pub const ANY: PreviousValue = PreviousValue::Any;
+
+pub fn object(number: u64) -> Target {
+    Target::Object(ObjectNumber::new(number).unwrap())
+}
+
+pub fn link(name: NameNumber) -> Target {
+    Target::Symbolic(name)
+}
+
+pub fn planner() -> Committer {
+    Committer::new(1).unwrap()
+}
+
+/// A region with setting normal and these names.
+pub fn site(names: &[&str]) -> Box<Region> {
+    let mut region = Box::new([0; REGION_SIZE]);
+    let mut store = done(Store::start(&mut region, Setting::Normal));
+    for name in names {
+        done(store.add_name(name));
+    }
+    region
+}
+
+/// The marked examples' own: HEAD links to the aisle.
+pub fn marked() -> Box<Region> {
+    let mut region = site(&["HEAD", "refs/heads/aisle"]);
+    done(done(Store::open(&mut region)).load_loose(HEAD, link(AISLE)));
+    region
+}
+
+pub fn list(edits: &[RefEdit]) -> EditList {
+    EditList::of(edits.iter().copied()).unwrap()
+}
+
+/// The lines of a name: previous (0 for none), new, committer, message.
+#[track_caller]
+pub fn lines_are(store: &Store<'_>, name: NameNumber, wanted: &[[u64; 4]]) {
+    let lines = store.lines(name).unwrap();
+    let found = lines
+        .map(|line| [line.previous.map_or(0, ObjectNumber::get), line.new.get(), line.committer.get(), line.message.get()]);
+    same(found.collect::<Vec<_>>(), wanted.to_vec());
+}

@@ -1,0 +1,9 @@
+//! The number of an object is no name's.
+use dehlbazin::*;
+
+pub fn service(store: &mut Store<'_>, name: NameNumber, object: ObjectNumber) -> Result<(), Refusal> {
+    #[cfg(refused)]
+    store.lock_name(object)?; // refused: error[E0308]
+    let _ = object;
+    store.lock_name(name)
+}
