@@ -7,6 +7,7 @@ use Prim.Native.Nat.{ℕ, _+_, _*_, _<_}
 use native.Mathlib.Omega.{arith}
 use lib.ListN.{length}
 use Rattle.word.specs.Flags.{Flags}
+use Rattle.target.specs.declared.NameNumber.{NameNumber}
 use Rattle.transaction.specs.declared.Edit.{Edit}
 use Rattle.model.specs.Store.{Store, count}
 use Rattle.model.specs.Rows.{nameIn}
@@ -46,3 +47,7 @@ told-at flags s rows k t = record { line = λ i m g. t .line i (omega arith) g; 
 -- every row has three places, and the packed write one
 pub place-in : (s : Store) (n k : ℕ) → n ≡ length (rowsOf s) → k < n * 3 + 1 → k < places s
 place-in s n k e l = omega arith
+
+-- a name before a registered one is registered
+pub earlier : (r : List ℕ) (n x : NameNumber) (m place : ℕ) → x ≡ record { 0 = m } → m < place → place ≡ n .0 → n .0 < count (view r) → x .0 < count (view r)
+earlier r n x m place e l p h = rw e (omega arith)

@@ -3,11 +3,8 @@ ghost use Prim.Native.Nat.{_<_};
 ghost use Rattle.model.specs.Store.{count};
 ghost use Rattle.region.specs.Region.{view, Laid};
 use crate::say;
-use model::Lock;
-use model::Loose;
 use model::Packed;
 use target::NameNumber;
-use target::Target;
 
 // The bytes of a name; of a number that is not registered the number.
 pub fn called(region: &[u8], n: NameNumber)
@@ -20,77 +17,81 @@ pub fn called(region: &[u8], n: NameNumber)
     say::text(region::name_at(region, n));
 }
 
-pub fn target(region: &[u8], t: Target)
+fn linked(region: &[u8], number: u64)
     requires { ⌜ Laid (now region) ⌝ }
 {
-    match t {
-        Target::Object(oid) => say::number(b"object ", oid.0),
-        Target::Symbolic(name) => link(region, name),
+    if number < 256 {
+        called(region, NameNumber::at(number as usize));
     }
 }
 
-fn link(region: &[u8], name: NameNumber)
+// A target by its kind, 0 none, 1 object or 2 link, and its number.
+pub fn target(region: &[u8], kind: u64, number: u64)
     requires { ⌜ Laid (now region) ⌝ }
 {
-    say::text(b"link to ");
-    called(region, name);
+    if kind == 1 {
+        say::number(b"object ", number);
+    }
+    if kind == 2 {
+        say::text(b"link to ");
+        linked(region, number);
+    }
 }
 
 // ---- values
 
-// What a name without a loose target reads.
-fn underneath(v: Packed) {
+// The object of a packed value; 0 is none.
+fn object_of(v: Packed) -> u64 {
     match v {
-        Packed::None => say::text(b"absent"),
-        Packed::Object(oid) => {
-            say::number(b"object ", oid.0);
-            say::text(b", packed");
-        }
+        Packed::None => 0,
+        Packed::Object(oid) => oid.0,
     }
+}
+
+// What a name without a loose target reads.
+fn underneath(under: u64) {
+    if under == 0 {
+        say::text(b"absent");
+        return;
+    }
+    say::number(b"object ", under);
+    say::text(b", packed");
 }
 
 // A packed value that a loose one hides.
-fn hidden(v: Packed) {
-    match v {
-        Packed::None => {}
-        Packed::Object(oid) => {
-            say::number(b" (over packed ", oid.0);
-            say::text(b")");
-        }
+fn hidden(under: u64) {
+    if under > 0 {
+        say::number(b" (over packed ", under);
+        say::text(b")");
     }
 }
 
-fn loose(region: &[u8], t: Target, under: Packed)
+// Kinds 1 and 2 are targets; 3 is broken.
+fn value_by(region: &[u8], kind: u64, number: u64, under: u64)
     requires { ⌜ Laid (now region) ⌝ }
 {
-    target(region, t);
-    say::text(b", loose");
-    hidden(under);
+    if kind % 3 == 0 {
+        underneath(under);
+    } else {
+        target(region, kind, number);
+        say::text(b", loose");
+        hidden(under);
+    }
+    say::choice(b"|||, loose file broken", kind);
 }
 
 fn value(region: &[u8], n: NameNumber)
     requires { ⌜ Laid (now region) ⌝ }
     requires { ⌜ n .0 < count (view (now region)) ⌝ }
 {
-    let under = region::packed_at(region, n);
-    match region::loose_at(region, n) {
-        Loose::None => underneath(under),
-        Loose::Target(t) => loose(region, t, under),
-        Loose::Broken => {
-            underneath(under);
-            say::text(b", loose file broken");
-        }
-    }
-}
-
-// ---- locks
-
-pub fn lock(l: Lock) {
-    match l {
-        Lock::Free => {}
-        Lock::Foreign => say::text(b", locked by another"),
-        Lock::Ours => say::text(b", locked by us"),
-    }
+    let under = object_of(region::packed_at(region, n));
+    let loose = region::loose_at(region, n);
+    value_by(
+        region,
+        slots::loose_kind(loose),
+        slots::loose_number(loose),
+        under,
+    );
 }
 
 // ---- one name, and all of them
@@ -108,8 +109,11 @@ fn entry(region: &[u8], n: NameNumber, width: usize)
     say::place(n.0 as u64);
     padded(region::name_at(region, n), width);
     value(region, n);
-    lock(region::lock_at(region, n));
-    say::end();
+    // Free is not said.
+    say::choice(
+        b"\n|, locked by another\n|, locked by us\n",
+        slots::lock_byte(region::lock_at(region, n)),
+    );
 }
 
 fn greater(a: usize, b: usize) -> usize {

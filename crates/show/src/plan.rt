@@ -13,6 +13,7 @@ use crate::say;
 use model::Line;
 use model::Packed;
 use target::NameNumber;
+use target::OptionTarget;
 use target::Target;
 use transaction::PackedRefs;
 use writes::OptionPackedEdit;
@@ -46,7 +47,8 @@ fn loose(region: &[u8], made: u64, n: NameNumber, t: Target) -> u64
     let now = begin(made, b"W1  write loose ");
     entries::called(region, n);
     say::text(b", ");
-    entries::target(region, t);
+    let to = OptionTarget::Present(t);
+    entries::target(region, to.byte(), to.number());
     say::end();
     now
 }

@@ -15,8 +15,6 @@ type Row = [u64; 13];
 struct At {}
 
 impl At {
-    const NAME: usize = 0;
-
     const KIND: usize = 1;
 
     const LOG: usize = 2;
@@ -42,39 +40,7 @@ impl At {
     const LEAF: usize = 12;
 }
 
-// ---- names and targets by their numbers
-
-fn called(region: &[u8], number: u64)
-    requires { ⌜ Laid (now region) ⌝ }
-{
-    if number < 256 {
-        entries::called(region, NameNumber::at(number as usize));
-    }
-}
-
-fn target(region: &[u8], kind: u64, number: u64)
-    requires { ⌜ Laid (now region) ⌝ }
-{
-    if kind == 1 {
-        say::number(b"object ", number);
-    } else {
-        say::text(b"link to ");
-        called(region, number);
-    }
-}
-
-// ---- what a row changes
-
-fn kind(region: &[u8], row: &Row)
-    requires { ⌜ Laid (now region) ⌝ }
-{
-    if row[At::KIND] == 1 {
-        say::text(b"update ");
-    } else {
-        say::text(b"delete ");
-    }
-    called(region, row[At::NAME]);
-}
+// ---- one row
 
 // Of an update its new target and its message.
 fn update(region: &[u8], row: &Row)
@@ -82,39 +48,29 @@ fn update(region: &[u8], row: &Row)
 {
     if row[At::KIND] == 1 {
         say::text(b" to ");
-        target(region, row[At::NEW_KIND], row[At::NEW_NUMBER]);
+        entries::target(region, row[At::NEW_KIND], row[At::NEW_NUMBER]);
         say::number(b", message ", row[At::MESSAGE]);
     }
 }
 
-fn marks(row: &Row) {
-    if row[At::LOG] == 1 {
-        say::text(b", log only");
-    }
-    if row[At::FORCE] == 1 {
-        say::text(b", forces a log");
-    }
-}
-
-// ---- what it expects, and where it comes from
-
-fn expected(row: &Row) {
-    match row[At::EXPECTED] {
-        0 => say::text(b"expects anything"),
-        1 => say::text(b"must exist"),
-        2 => say::text(b"must not exist"),
-        3 => say::text(b"must exist and match "),
-        _ => say::text(b"existing must match "),
-    }
-}
-
-fn expected_target(region: &[u8], row: &Row)
+fn change(region: &[u8], name: NameNumber, row: &Row)
     requires { ⌜ Laid (now region) ⌝ }
 {
-    expected(row);
-    if row[At::EXPECTED] > 2 {
-        target(region, row[At::EXPECTED_KIND], row[At::EXPECTED_NUMBER]);
-    }
+    say::choice(b"|update |delete ", row[At::KIND]);
+    entries::called(region, name);
+    update(region, row);
+    say::choice(b"|, log only", row[At::LOG]);
+    say::choice(b"|, forces a log", row[At::FORCE]);
+}
+
+fn expected(region: &[u8], row: &Row)
+    requires { ⌜ Laid (now region) ⌝ }
+{
+    say::choice(
+        b"\n      expects anything|\n      must exist|\n      must not exist|\n      must exist and match |\n      existing must match ",
+        row[At::EXPECTED],
+    );
+    entries::target(region, row[At::EXPECTED_KIND], row[At::EXPECTED_NUMBER]);
 }
 
 fn origin(row: &Row) {
@@ -134,23 +90,11 @@ fn lock(kept: bool) {
     }
 }
 
-// ---- one row, and all of them
-
-fn change(region: &[u8], row: &Row)
+fn parts(region: &[u8], name: NameNumber, row: &Row, kept: bool)
     requires { ⌜ Laid (now region) ⌝ }
 {
-    kind(region, row);
-    update(region, row);
-    marks(row);
-    say::end();
-}
-
-fn numbers(region: &[u8], row: &Row, kept: bool)
-    requires { ⌜ Laid (now region) ⌝ }
-{
-    change(region, row);
-    say::text(b"      ");
-    expected_target(region, row);
+    change(region, name, row);
+    expected(region, row);
     origin(row);
     lock(kept);
 }
@@ -159,12 +103,14 @@ fn row(region: &[u8], i: usize)
     requires { ⌜ Laid (now region) ⌝ }
     requires { ⌜ i < length (rowsIn (view (now region) .prepared)) ⌝ }
 {
+    say::place(i as u64);
     let row = region::row_at(region, i);
     let kept = rows::keeps_lock(region, region::mode(region), row);
-    let all = slots::row_numbers(row);
-    say::place(i as u64);
-    numbers(region, &all, kept);
+    let numbers = slots::row_numbers(row);
+    parts(region, region::row_name(region, i), &numbers, kept);
 }
+
+// ---- all of them
 
 fn rows_of(region: &[u8])
     requires { ⌜ Laid (now region) ⌝ }
@@ -179,11 +125,10 @@ fn rows_of(region: &[u8])
 
 fn mode(number: u64) {
     say::number(b"mode: ", number);
-    match number {
-        1 => say::text(b", deletions are packed\n"),
-        2 => say::text(b", updates are packed too\n"),
-        _ => say::text(b", and their loose values go\n"),
-    }
+    say::choice(
+        b"|, deletions are packed\n|, updates are packed too\n|, updates are packed too, and their loose values go\n",
+        number,
+    );
 }
 
 pub fn all(region: &[u8])

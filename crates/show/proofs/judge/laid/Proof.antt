@@ -15,6 +15,9 @@ slice-aggregate-text c = search needs
 text-requires : tie.Need-text-requires
 text-requires c κs = search needs
 
+all-requires-2 : tie.Need-all-requires-2
+all-requires-2 c κs = search needs
+
 returns : tie.Need-returns
 returns c = search needs
 
@@ -24,4 +27,11 @@ returns-2 c = search needs
 pub laid-spec : {M : Type 1} → statement M
 laid-spec =
     tie.close
-    (tie.spec is-fine-requires all-requires slice-aggregate-text text-requires returns returns-2)
+    (tie.spec
+    is-fine-requires
+    all-requires
+    slice-aggregate-text
+    text-requires
+    all-requires-2
+    returns
+    returns-2)

@@ -3,11 +3,8 @@ use Rattle.show.proofs.Laws.{is-laid}
 use Rattle.show.proofs.judge.region.Statement.{statement}
 use Rattle.show.proofs.judge.region.Tie as tie
 
-slice-aggregate-number : tie.Need-slice-aggregate-number
-slice-aggregate-number c = search needs
-
-number-requires : tie.Need-number-requires
-number-requires c κs = search needs
+wrong-size-requires : tie.Need-wrong-size-requires
+wrong-size-requires c κs = search needs
 
 returns : tie.Need-returns
 returns c = search needs
@@ -24,6 +21,9 @@ slice-aggregate-text c = search needs
 text-requires : tie.Need-text-requires
 text-requires c κs = search needs
 
+all-requires : tie.Need-all-requires
+all-requires c κs = search needs
+
 returns-2 : tie.Need-returns-2
 returns-2 c = search needs
 
@@ -34,12 +34,12 @@ pub region-spec : {M : Type 1} → statement M
 region-spec =
     tie.close
     (tie.spec
-    slice-aggregate-number
-    number-requires
+    wrong-size-requires
     returns
     is-laid-requires
     laid-requires
     slice-aggregate-text
     text-requires
+    all-requires
     returns-2
     returns-3)

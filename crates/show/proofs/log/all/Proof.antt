@@ -1,6 +1,5 @@
 use borrow.Author.Needs.{needs}
 use Prim.Native.Nat.{_-_}
-use Rattle.kept.proofs.Laws.{placed}
 use Rattle.show.proofs.log.all.Statement.{statement}
 use Rattle.show.proofs.log.all.Tie as tie
 
@@ -32,7 +31,7 @@ at-requires : tie.Need-at-requires Inv-loop μ-loop
 at-requires c κs = search needs
 
 log-of-requires : tie.Need-log-of-requires Inv-loop μ-loop
-log-of-requires c κs = search (needs, placed)
+log-of-requires c κs = search needs
 
 add-n : tie.Need-add-n Inv-loop μ-loop
 add-n c = search needs
