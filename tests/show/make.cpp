@@ -125,7 +125,7 @@ static void commit(uint64_t committer)
 
 // ---- the regions
 
-// Every kind of value and lock, and a log of two names.
+// Every kind of value and lock, and a log of three names.
 static void make_good()
 {
     must_be_done(dehlbazin_start(region.data(), region.size(), DEHLBAZIN_SETTING_NORMAL, answer.data(), answer.size()), "start");
@@ -139,7 +139,7 @@ static void make_good()
     commit(12);
     through.to = 4103;
     through.message = 4;
-    prepare({through}, DEHLBAZIN_MODE_DELETIONS);
+    prepare({through, update("refs/heads/old", 6)}, DEHLBAZIN_MODE_DELETIONS);
     commit(7);
     packed("refs/heads/aisle-7", 12);
     packed("refs/heads/aisle-8", UINT64_MAX);
@@ -167,7 +167,8 @@ static void make_prepared()
     Edit first = update("refs/heads/aisle-9", 8);
     first.expected = DEHLBAZIN_EXPECTED_EXISTING_MUST_MATCH;
     first.was = 2;
-    prepare({through, same, forced, first, link("ORIG_HEAD", "refs/heads/aisle-9"), removal("refs/tags/bent")},
+    prepare({through, same, forced, first, link("ORIG_HEAD", "refs/heads/aisle-9"), removal("refs/tags/bent"),
+             removal("refs/heads/old")},
             DEHLBAZIN_MODE_UPDATES);
 }
 

@@ -10,15 +10,25 @@ use target::NameNumber;
 use target::ObjectNumber;
 use transaction::ParentIndex;
 
-fn fault(of: &[u8], place: usize, what: &[u8]) {
+// What is said of a name, a line or a row that is not as it must be.
+fn fault(ok: bool, of: &[u8], place: usize, what: &[u8]) {
+    if ok {
+        return;
+    }
     say::number(of, place as u64);
     say::text(what);
 }
 
-fn twins(of: &[u8], place: usize, other: usize) {
-    fault(of, place, b" is the same as ");
-    say::number(b"", other as u64);
-    say::end();
+fn name_fault(ok: bool, n: NameNumber, what: &[u8]) {
+    fault(ok, b"  name ", n.place(), what);
+}
+
+fn line_fault(ok: bool, i: usize, what: &[u8]) {
+    fault(ok, b"  line ", i, what);
+}
+
+fn row_fault(ok: bool, i: usize, what: &[u8]) {
+    fault(ok, b"  row ", i, what);
 }
 
 // ---- names
@@ -44,12 +54,16 @@ fn packed_ok(region: &[u8], n: NameNumber) -> bool
     true
 }
 
-fn twin(region: &[u8], n: NameNumber, m: NameNumber) -> bool
+fn name_twin(region: &[u8], n: NameNumber, m: NameNumber)
     requires { ⌜ Laid (now region) ⌝ }
     requires { ⌜ n .0 < count (view (now region)) ⌝ }
     requires { ⌜ m .0 < count (view (now region)) ⌝ }
 {
-    word::same(region::name_at(region, n), region::name_at(region, m))
+    if word::same(region::name_at(region, n), region::name_at(region, m)) {
+        name_fault(false, n, b" is spelled as name ");
+        say::number(b"", m.0 as u64);
+        say::end();
+    }
 }
 
 // The names before it that are spelled as it is.
@@ -60,9 +74,7 @@ fn name_twins(region: &[u8], n: NameNumber)
     let place = n.place();
     let mut m: usize = 0;
     while m < place {
-        if twin(region, n, NameNumber::at(m)) {
-            twins(b"  name ", place, m);
-        }
+        name_twin(region, n, NameNumber::at(m));
         m += 1;
     }
 }
@@ -71,15 +83,10 @@ fn name(region: &[u8], n: NameNumber)
     requires { ⌜ Laid (now region) ⌝ }
     requires { ⌜ n .0 < count (view (now region)) ⌝ }
 {
-    if !names::is_name(region::name_at(region, n)) {
-        fault(b"  name ", n.place(), b" is no name\n");
-    }
-    if !link_ok(region, n) {
-        fault(b"  name ", n.place(), b" links to no name\n");
-    }
-    if !packed_ok(region, n) {
-        fault(b"  name ", n.place(), b" is packed, and not packable\n");
-    }
+    let spelled = names::is_name(region::name_at(region, n));
+    name_fault(spelled, n, b" is not spelled as a name\n");
+    name_fault(link_ok(region, n), n, b" links to no registered name\n");
+    name_fault(packed_ok(region, n), n, b" is packed, and not packable\n");
     name_twins(region, n);
 }
 
@@ -103,16 +110,15 @@ fn line(region: &[u8], i: usize)
 {
     let l = region::line_at(region, i);
     let of = l.name;
-    if of.place() >= region::count_names(region) {
-        fault(b"  line ", i, b" has no registered name\n");
-    }
     let new = l.new;
-    if new.0 == ObjectNumber::NULL {
-        fault(b"  line ", i, b" leads to object 0\n");
-    }
-    if l.committer == 0 {
-        fault(b"  line ", i, b" has no committer\n");
-    }
+    let committer = l.committer;
+    line_fault(
+        of.place() < region::count_names(region),
+        i,
+        b" has no registered name\n",
+    );
+    line_fault(new.0 != ObjectNumber::NULL, i, b" leads to object 0\n");
+    line_fault(committer != 0, i, b" has no committer\n");
 }
 
 fn of_lines(region: &[u8])
@@ -128,6 +134,19 @@ fn of_lines(region: &[u8])
 }
 
 // ---- rows
+
+// Whether the parent, if there is one, is an earlier row.
+fn parent_ok(region: &[u8], i: usize) -> bool
+    requires { ⌜ Laid (now region) ⌝ }
+    requires { ⌜ i < length (rowsIn (view (now region) .prepared)) ⌝ }
+{
+    let row = region::row_at(region, i);
+    let parent = row.parent_index;
+    match parent {
+        ParentIndex::NoParent => true,
+        ParentIndex::Parent(j) => j < i,
+    }
+}
 
 // The place of a row's parent; its own where it has none.
 fn parent_of(region: &[u8], i: usize) -> usize
@@ -158,13 +177,14 @@ fn is_deep(region: &[u8], i: usize) -> bool
 
 fn ancestors(region: &[u8], i: usize)
     requires { ⌜ Laid (now region) ⌝ }
+    requires { ⌜ i < length (rowsIn (view (now region) .prepared)) ⌝ }
 {
-    if parent_of(region, i) > i {
-        fault(b"  row ", i, b" has no earlier row as its parent\n");
-    }
-    if is_deep(region, i) {
-        fault(b"  row ", i, b" has more than four ancestors\n");
-    }
+    row_fault(
+        parent_ok(region, i),
+        i,
+        b" has a parent that is no earlier row\n",
+    );
+    row_fault(!is_deep(region, i), i, b" has more than four ancestors\n");
 }
 
 fn targets(region: &[u8], i: usize)
@@ -175,12 +195,10 @@ fn targets(region: &[u8], i: usize)
     let update = row.update;
     let change = update.change;
     let count = region::count_names(region);
-    if !rules::option_ok(count, change.previous_value()) {
-        fault(b"  row ", i, b" expects a link to no name\n");
-    }
-    if !rules::option_ok(count, change.new_value()) {
-        fault(b"  row ", i, b" makes a link to no name\n");
-    }
+    let expected = rules::option_ok(count, change.previous_value());
+    let new = rules::option_ok(count, change.new_value());
+    row_fault(expected, i, b" expects a link to no registered name\n");
+    row_fault(new, i, b" makes a link to no registered name\n");
 }
 
 fn row_twin(region: &[u8], i: usize, n: NameNumber, j: usize)
@@ -189,7 +207,9 @@ fn row_twin(region: &[u8], i: usize, n: NameNumber, j: usize)
 {
     let name = region::row_name(region, j);
     if name.eq(n) {
-        twins(b"  the name of row ", i, j);
+        row_fault(false, i, b" has the name of row ");
+        say::number(b"", j as u64);
+        say::end();
     }
 }
 
@@ -198,9 +218,11 @@ fn row_twins(region: &[u8], i: usize)
     requires { ⌜ i < length (rowsIn (view (now region) .prepared)) ⌝ }
 {
     let n = region::row_name(region, i);
-    if n.place() >= region::count_names(region) {
-        fault(b"  row ", i, b" has no registered name\n");
-    }
+    row_fault(
+        n.place() < region::count_names(region),
+        i,
+        b" has no registered name\n",
+    );
     let mut j: usize = 0;
     while j < i {
         row_twin(region, i, n, j);
@@ -264,20 +286,15 @@ fn lock(region: &[u8], n: NameNumber)
 {
     let ours = slots::lock_byte(region::lock_at(region, n)) == 2;
     let keeps = any_keeps(region, n);
-    if ours && !keeps {
-        fault(
-            b"  name ",
-            n.place(),
-            b" is locked by us, and no row keeps that lock\n",
-        );
+    if ours == keeps {
+        return;
     }
-    if keeps && !ours {
-        fault(
-            b"  name ",
-            n.place(),
-            b" is not locked by us, and a row keeps that lock\n",
-        );
-    }
+    name_fault(!ours, n, b" is locked by us, and no row keeps that lock\n");
+    name_fault(
+        ours,
+        n,
+        b" is not locked by us, and a row keeps that lock\n",
+    );
 }
 
 fn packed_lock(region: &[u8])
@@ -285,10 +302,12 @@ fn packed_lock(region: &[u8])
 {
     let ours = slots::lock_byte(region::packed_lock(region)) == 2;
     let opened = kept::opens_table(region);
-    if ours && !opened {
-        say::text(b"  the packed table is locked by us, and the rows do not open it\n");
+    if ours == opened {
+        return;
     }
-    if opened && !ours {
+    if ours {
+        say::text(b"  the packed table is locked by us, and the rows do not open it\n");
+    } else {
         say::text(b"  the packed table is not locked by us, and the rows open it\n");
     }
 }

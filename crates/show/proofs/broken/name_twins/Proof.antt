@@ -5,10 +5,10 @@ use Rattle.show.proofs.broken.name_twins.Statement.{statement}
 use Rattle.show.proofs.broken.name_twins.Tie as tie
 
 abbrev Inv-loop : tie.InvT-loop
-Inv-loop region n place m₀ t5 m = Unit {0}
+Inv-loop region n place m₀ m = Unit {0}
 
 abbrev μ-loop : tie.MeasureT-loop
-μ-loop region n place m₀ t5 m = place - m
+μ-loop region n place m₀ m = place - m
 
 place-requires : tie.Need-place-requires Inv-loop μ-loop
 place-requires c κs = search needs
@@ -19,14 +19,8 @@ loop-holds c = search needs
 at-requires : tie.Need-at-requires Inv-loop μ-loop
 at-requires c κs = search needs
 
-twin-requires : tie.Need-twin-requires Inv-loop μ-loop
-twin-requires c κs = (search needs, (search needs, search earlier))
-
-slice-aggregate-twins : tie.Need-slice-aggregate-twins Inv-loop μ-loop
-slice-aggregate-twins c = search needs
-
-twins-requires : tie.Need-twins-requires Inv-loop μ-loop
-twins-requires c κs = search needs
+name-twin-requires : tie.Need-name-twin-requires Inv-loop μ-loop
+name-twin-requires c κs = (search needs, (search needs, search earlier))
 
 add-m : tie.Need-add-m Inv-loop μ-loop
 add-m c = search needs
@@ -49,9 +43,7 @@ name-twins-spec =
     place-requires
     loop-holds
     at-requires
-    twin-requires
-    slice-aggregate-twins
-    twins-requires
+    name-twin-requires
     add-m
     loop-less
     loop-again

@@ -18,14 +18,11 @@ place-requires c κs = search needs
 count-names-requires : tie.Need-count-names-requires Inv-loop μ-loop
 count-names-requires c κs = search needs
 
-slice-aggregate-fault : tie.Need-slice-aggregate-fault Inv-loop μ-loop
-slice-aggregate-fault c = search needs
+slice-aggregate-row-fault : tie.Need-slice-aggregate-row-fault Inv-loop μ-loop
+slice-aggregate-row-fault c = search needs
 
-slice-aggregate-fault-2 : tie.Need-slice-aggregate-fault-2 Inv-loop μ-loop
-slice-aggregate-fault-2 c = search needs
-
-fault-requires : tie.Need-fault-requires Inv-loop μ-loop
-fault-requires c κs = search needs
+row-fault-requires : tie.Need-row-fault-requires Inv-loop μ-loop
+row-fault-requires c κs = search needs
 
 loop-holds : tie.Need-loop-holds Inv-loop μ-loop
 loop-holds c = search needs
@@ -54,9 +51,8 @@ row-twins-spec =
     row-name-requires
     place-requires
     count-names-requires
-    slice-aggregate-fault
-    slice-aggregate-fault-2
-    fault-requires
+    slice-aggregate-row-fault
+    row-fault-requires
     loop-holds
     row-twin-requires
     add-j
