@@ -3,9 +3,6 @@ use crate::judge;
 use crate::say;
 use libc::STDIN_FILENO;
 
-// Room for a region and one byte more.
-type Input = [u8; 49550];
-
 // What is left of the input is counted, and not kept. The number is 0 where nothing is left, or cannot be read.
 fn some_more(fd: i32) -> usize {
     let mut rest = io::buffer();
@@ -32,6 +29,7 @@ fn count_rest(fd: i32, size: u64) -> u64 {
     now
 }
 
+// There is room for a region and one byte more, which tells that an input is too long.
 fn read(fd: i32) {
     let mut bytes = [0u8; 49550];
     let got = io::read_full(fd, &mut bytes);
