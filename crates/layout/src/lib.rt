@@ -31,7 +31,7 @@ pub enum Table {
 
 impl Table {
     // How wide a slot is.
-    fn width(self) -> usize
+    pub fn width(self) -> usize
         ensures { λ r. ⌜ r ≡ widthOf self ⌝ }
     {
         match self {
@@ -45,7 +45,7 @@ impl Table {
     }
 
     // How many slots there are.
-    fn limit(self) -> usize
+    pub fn limit(self) -> usize
         ensures { λ r. ⌜ r ≡ limitOf self ⌝ }
     {
         match self {
@@ -59,7 +59,7 @@ impl Table {
     }
 
     // Where the first one begins.
-    fn base(self) -> usize
+    pub fn base(self) -> usize
         ensures { λ r. ⌜ r ≡ baseOf self ⌝ }
     {
         match self {
@@ -133,7 +133,14 @@ fn held_ok(table: Table, slot: &[u8]) -> bool
 
 // A table of `count` slots of `width` bytes from `base` on, of which the first n are in use: each of these is tested by itself, and what
 // stands behind them is one run of zeros.
-fn slots_ok(region: &[u8], table: Table, width: usize, count: usize, n: usize, base: usize) -> bool
+pub fn slots_ok(
+    region: &[u8],
+    table: Table,
+    width: usize,
+    count: usize,
+    n: usize,
+    base: usize,
+) -> bool
     requires { ⌜ width ≡ widthOf table ⌝ }
     requires { ⌜ base + count * width ≤ length (now region) ⌝ }
     requires { ⌜ length (now region) ≡ regionSize ⌝ }
@@ -157,7 +164,7 @@ fn slots_ok(region: &[u8], table: Table, width: usize, count: usize, n: usize, b
     word::all_zero(&region[free..end])
 }
 
-fn table_ok(region: &[u8], table: Table, n: usize) -> bool
+pub fn table_ok(region: &[u8], table: Table, n: usize) -> bool
     requires { ⌜ length (now region) ≡ regionSize ⌝ }
     requires { ⌜ n ≤ limitOf table ⌝ }
     ensures { λ r. ⌜ r ≡ tableTest table n (now (region .entry)) ⌝ }
@@ -191,7 +198,7 @@ fn head_ok(region: &[u8]) -> bool
 }
 
 // Nothing prepared has no rows.
-fn most_rows(mode: u64) -> usize
+pub fn most_rows(mode: u64) -> usize
     ensures { λ r. ⌜ r ≡ cond (eqb mode 0) 0 160 ⌝ }
 {
     if mode == 0 { 0 } else { Edit::LIMIT }
