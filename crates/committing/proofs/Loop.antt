@@ -9,22 +9,21 @@ use native.Mathlib.Omega.{arith}
 use native.Mathlib.Numerals.{add-one}
 use lib.ListN.{length}
 use Rattle.word.specs.Flags.{Flags}
-use Rattle.transaction.specs.declared.Edit.{Edit}
 use Rattle.model.specs.Store.{Store, Prepared, count, rowsIn}
-use Rattle.model.specs.Rows.{nameIn}
-use Rattle.model.specs.Due.{Stamp, hasLines}
+use Rattle.model.specs.Due.{Stamp}
 use Rattle.model.specs.Writes.{Write, apply, writes}
 use Rattle.model.specs.Commit.{Run, linesIn, run, committing}
 use Rattle.model.specs.Fine.{Fine}
 use Rattle.model.specs.Demand3.{by}
 use Rattle.model.proofs.FineEdit.{row-edit}
 use Rattle.model.proofs.KeptCommit.{apply-room, lines-append, writes-lines}
-use Rattle.model.proofs.RowFacts.{alone, held}
+use Rattle.model.proofs.RowFacts.{alone}
 use Rattle.region.specs.Region.{view, Laid}
 use Rattle.rows.specs.Rows.{Named, Apart}
 use Rattle.rows.specs.Due.{lined}
-use Rattle.writes.specs.Next.{rowsOf, modeOf, theRow, firstAt, secondAt, places, ahead}
-use Rattle.writes.specs.Told.{tells, Told}
+use Rattle.writes.specs.Next.{rowsOf, modeOf, firstAt, secondAt, places, ahead}
+use Rattle.writes.specs.Told.{Told}
+use Rattle.writes.proofs.Named.{fine-named, told-first, told-later}
 use Rattle.writes.proofs.Steps.{first-stays, second-stays}
 use Rattle.writes.proofs.Whole.{whole}
 use Rattle.committing.specs.declared.Halt.{Halt}
@@ -35,22 +34,8 @@ use Rattle.committing.proofs.Turned.{named-as, apart-as, either, turned
 
 -- ---- what the rules say of the rows
 
-fine-named : (s : Store) → Fine s → Named s
-fine-named s f = record { named = λ i h. held s f i h }
-
 fine-apart : (s : Store) → Fine s → Apart (rowsOf s)
 fine-apart s f = record { apart = λ i j h g d e. alone s f j g i h d e }
-
--- flags that were raised just now tell of every row
-told-first : (flags : List Bool) (s : Store) → Named s → count s ≤ 256 → Flags (lined s) flags → Told flags s (rowsOf s) 0
-told-first flags s n few up = record { line = λ i m g. tells-so i g; log = λ i m g d. tells-so i g }
-  where
-    tells-so : (i : ℕ) → i < length (rowsOf s) → tells flags (theRow s i) ≡ hasLines s (nameIn (theRow s i))
-    tells-so i g = up .flag (nameIn (theRow s i) .0) (omega (arith, n .named i g))
-
--- what they tell before a place, they tell before the next
-told-later : (flags : List Bool) (s : Store) (rows : List Edit) (k : ℕ) → Told flags s rows k → Told flags s rows (suc k)
-told-later flags s rows k t = record { line = λ i m g. t .line i (omega arith) g; log = λ i m g d. t .log i (omega arith) g d }
 
 -- ---- the run so far, with the writes that are left, by the store as it is
 
@@ -178,7 +163,7 @@ module _ (c : ℕ) (z : Run) (r₀ : List ℕ) (flags : List Bool) (p k : ℕ) (
 
     first-told : (b : Ran) (r′ : List ℕ) → k < p → Turned (by c) at (firstAt (by c) (view r) k) b r r′ → Told flags (view r′) (rowsOf (view r′)) (suc k)
     first-told b r′ l t =
-        either (by c) (firstAt (by c) (view r) k) at b r r′ t (λ (s : Store). Told flags s (rowsOf s) (suc k)) (told-later flags (view r) (rowsOf (view r)) k (h .told))
+        either (by c) (firstAt (by c) (view r) k) at b r r′ t (λ (s : Store). Told flags s (rowsOf s) (suc k)) (told-later flags (view r) (rowsOf (view r)) k (suc k) (omega arith) (h .told))
         (λ w e. first-stays (by c) (view r) before-apart k (p - suc k) (omega (arith, same-places)) w e .2 flags (h .told))
 
     between : (b : Ran) (r′ : List ℕ) → k < p → Turned (by c) at (firstAt (by c) (view r) k) b r r′ → length r′ ≡ length r → Between c z r₀ flags p k b r′
@@ -246,7 +231,7 @@ before-start c allowance n r flags l f up small en =
         made = omega arith;
         comes = ap (λ (ws : List Write). run (by c) allowance ws 0 (view r)) w;
       };
-      told = told-first flags (view r) (fine-named (view r) f) (l .names) up;
+      told = told-first flags (view r) f up;
       all = record { places = omega arith; few = omega (arith, l .rows) };
       upto = omega arith;
     }

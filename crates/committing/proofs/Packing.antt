@@ -37,9 +37,6 @@ use Rattle.rows.specs.Rows.{Named, Apart}
 
 -- ---- one row's part of the packed write
 
-pub packed-named : (s : Store) (i : ℕ) (r : Edit) → Named s → i < length (rowsOf s) → r ≡ theRow s i → nameIn r .0 < count s
-packed-named s i r n l er = rw er (n .named i l)
-
 -- the value that is set is none, or the object of a row that fits
 abbrev one : NameNumber → Packed → List PackedEdit
 one n v = record { name = n; value = v } ∷ []

@@ -1,3 +1,4 @@
+pub mod Named
 pub mod Says
 pub mod Turns
 pub mod Place

@@ -44,9 +44,6 @@ pub edits-any : (s : Store) (mode : PackedRefs) → mode ≡ modeOf s → any (�
     ≡ not (isEmpty (packedEdits s (modeOf s) (rowsOf s)))
 edits-any s mode e = any-collect (packedEdit s mode) (rowsOf s) ∙ ap (λ (m : PackedRefs). not (isEmpty (packedEdits s m (rowsOf s)))) e
 
-pub row-named : (s : Store) (rows i : ℕ) (r : Edit) → Named s → rows ≡ length (rowsOf s) → i < rows → r ≡ theRow s i → nameIn r .0 < count s
-row-named s rows i r n e l er = rw er (n .named i (rw e at l))
-
 pub gone-named : (s : Store) (n k : ℕ) (r : Edit) → Named s → n ≡ length (rowsOf s) → k < places s → n ≤ k → n ≤ k - n → (k - n ≡ n → ⊥)
     → r ≡ theRow s (k - n - n - 1) → nameIn r .0 < count s
 gone-named s n k r d e h l g ne er = rw er (d .named (k - n - n - 1) (omega arith))

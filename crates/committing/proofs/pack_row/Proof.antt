@@ -1,5 +1,6 @@
-use Rattle.committing.proofs.Packing.{packed-named, pack-none, pack-set, edit-fits}
+use Rattle.committing.proofs.Packing.{pack-none, pack-set, edit-fits}
 use borrow.Author.Needs.{needs}
+use Rattle.writes.proofs.Named.{row-named}
 use Rattle.committing.proofs.pack_row.Statement.{statement}
 use Rattle.committing.proofs.pack_row.Tie as tie
 
@@ -7,7 +8,7 @@ row-at-requires : tie.Need-row-at-requires
 row-at-requires c κs = search needs
 
 packed-edit-requires : tie.Need-packed-edit-requires
-packed-edit-requires c κs = search (needs, packed-named)
+packed-edit-requires c κs = search (needs, row-named)
 
 enum-known-v : tie.Need-enum-known-v
 enum-known-v c = search needs
@@ -22,7 +23,7 @@ returns : tie.Need-returns
 returns c = search pack-none
 
 put-packed-at-requires : tie.Need-put-packed-at-requires
-put-packed-at-requires c κs = search (needs, packed-named, edit-fits)
+put-packed-at-requires c κs = search (needs, row-named, edit-fits)
 
 same-length-2 : tie.Need-same-length-2
 same-length-2 c = search needs

@@ -9,7 +9,8 @@ use Rattle.model.specs.Basic.{any, isEmpty}
 use Rattle.model.specs.Store.{rowsIn, modeIn}
 use Rattle.model.specs.Writes.{packedEdit, packedEdits}
 use Rattle.rows.proofs.Laws.{any-more, any-here, any-end}
-use Rattle.writes.proofs.Turns.{edits-any, row-named}
+use Rattle.writes.proofs.Named.{row-named}
+use Rattle.writes.proofs.Turns.{edits-any}
 use Rattle.writes.proofs.any_edit.Statement.{statement}
 use Rattle.writes.proofs.any_edit.Tie as tie
 

@@ -1,6 +1,5 @@
 use borrow.Author.Needs.{needs}
-use Rattle.show.proofs.Laws.{fine-named}
-use Rattle.show.proofs.Laws.{told-all}
+use Rattle.writes.proofs.Named.{fine-named, told-first}
 use Rattle.word.proofs.Flags.{all-down}
 use Rattle.show.proofs.plan.all.Statement.{statement}
 use Rattle.show.proofs.plan.all.Tie as tie
@@ -21,7 +20,7 @@ slice-aggregate-all-places : tie.Need-slice-aggregate-all-places
 slice-aggregate-all-places c = search needs
 
 all-places-requires : tie.Need-all-places-requires
-all-places-requires c κs = (search needs, (search fine-named, search told-all))
+all-places-requires c κs = (search needs, (search fine-named, search told-first))
 
 slice-aggregate-number : tie.Need-slice-aggregate-number
 slice-aggregate-number c = search needs

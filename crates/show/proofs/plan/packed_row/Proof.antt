@@ -1,5 +1,5 @@
 use borrow.Author.Needs.{needs}
-use Rattle.show.proofs.Laws.{row-held}
+use Rattle.writes.proofs.Named.{row-named}
 use Rattle.show.proofs.plan.packed_row.Statement.{statement}
 use Rattle.show.proofs.plan.packed_row.Tie as tie
 
@@ -10,7 +10,7 @@ row-at-requires : tie.Need-row-at-requires
 row-at-requires c κs = search needs
 
 packed-edit-requires : tie.Need-packed-edit-requires
-packed-edit-requires c κs = search (needs, row-held)
+packed-edit-requires c κs = search (needs, row-named)
 
 packed-edit-requires-2 : tie.Need-packed-edit-requires-2
 packed-edit-requires-2 c κs = search needs

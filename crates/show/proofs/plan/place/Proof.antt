@@ -1,10 +1,10 @@
 use borrow.Author.Needs.{needs}
-use Rattle.show.proofs.Laws.{told-at}
+use Rattle.writes.proofs.Named.{told-later}
 use Rattle.show.proofs.plan.place.Statement.{statement}
 use Rattle.show.proofs.plan.place.Tie as tie
 
 next-first-requires : tie.Need-next-first-requires
-next-first-requires c κs = (search needs, (search needs, (search told-at, search needs)))
+next-first-requires c κs = (search needs, (search needs, (search (needs, told-later), search needs)))
 
 write-requires : tie.Need-write-requires
 write-requires c κs = search needs
