@@ -1,6 +1,6 @@
 // Makes the regions that crates/show is shown on, by the calls and nothing else; the damaged ones are then changed by hand.
 //   make DIRECTORY
-// writes into it good, prepared, and three that are not good: version, slot and rules.
+// writes into it good, prepared, and four that are not good: version, slot, rules and rows.
 #include "dehlbazin.h"
 
 #include <algorithm>
@@ -204,5 +204,12 @@ int main(int count, char **words)
     region[21005 + 1] = 2;                                                         // the lock of name 1 is ours
     region[12] = 2;                                                                // and the packed table's
     save(directory + "rules");
+    make_prepared();
+    region[21261 + 36 * 0 + 15] = 1; // row 0 expects a link to a name that is not registered
+    region[8] = 4;                   // 1,024 lines, all as the first one, so that the lines that are due have no room
+    region[9] = 0;
+    for (size_t i = 1; i < 1024; i++)
+        std::copy(&region[27021], &region[27021 + 22], &region[27021 + 22 * i]);
+    save(directory + "rows");
     return 0;
 }
