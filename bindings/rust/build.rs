@@ -41,9 +41,14 @@ fn find() -> Result<PathBuf, String> {
     if let Some(prefix) = env::var_os("DEHLBAZIN_PREFIX") {
         return named("DEHLBAZIN_PREFIX", Path::new(&prefix).join("lib").join(FILE));
     }
-    let checkout = Path::new(env!("CARGO_MANIFEST_DIR")).join("../../target/staticlib").join(FILE);
-    let found = Some(checkout).filter(|archive| archive.is_file()).or_else(installed);
-    found.ok_or_else(|| NOT_FOUND.to_string())
+    beside().filter(|archive| archive.is_file()).or_else(installed).ok_or_else(|| NOT_FOUND.to_string())
+}
+
+/// Where the archive lies as seen from this crate: in the tree that was installed, or in a checkout.
+fn beside() -> Option<PathBuf> {
+    let own = PathBuf::from(env::var_os("CARGO_MANIFEST_DIR")?);
+    let folder = if own.ends_with("share/dehlbazin/rust") { "../../../lib" } else { "../../target/staticlib" };
+    Some(own.join(folder).join(FILE))
 }
 
 fn named(variable: &str, archive: PathBuf) -> Result<PathBuf, String> {
