@@ -1,28 +1,18 @@
 // What the programs write: a line for each difference, and one at the end.
-use libc::STDOUT_FILENO;
 use notes::Note;
 use notes::Notes;
 
-fn say(text: &[u8]) {
-    io::write_all(STDOUT_FILENO, text);
-}
-
-fn say_number(before: &[u8], number: u64) {
-    say(before);
-    io::print_decimal(STDOUT_FILENO, number);
-}
-
 fn say_where(notes: &Notes, what: &[u8]) {
-    say_number(b"case ", notes[Note::CASES]);
-    say_number(b", line ", notes[Note::PLACE]);
-    say(b", ");
-    say(what);
+    say::number(b"case ", notes[Note::CASES]);
+    say::number(b", line ", notes[Note::PLACE]);
+    say::text(b", ");
+    say::text(what);
 }
 
 fn say_both(expected: u64, found: u64) {
-    say_number(b": expected ", expected);
-    say_number(b", found ", found);
-    say(b"\n");
+    say::number(b": expected ", expected);
+    say::number(b", found ", found);
+    say::end();
 }
 
 // A number is the recorded one, or the case differs.
@@ -38,7 +28,7 @@ pub fn same(notes: &mut Notes, what: &[u8], expected: u64, found: u64) {
 pub fn same_at(notes: &mut Notes, what: &[u8], place: u64, expected: u64, found: u64) {
     if expected != found {
         say_where(notes, what);
-        say_number(b" ", place);
+        say::number(b" ", place);
         say_both(expected, found);
         notes[Note::SEEN] = 1;
     }
@@ -47,7 +37,7 @@ pub fn same_at(notes: &mut Notes, what: &[u8], place: u64, expected: u64, found:
 // The line is not one of the format, or not here.
 pub fn fault(notes: &mut Notes, what: &[u8]) {
     say_where(notes, what);
-    say(b"\n");
+    say::end();
     notes[Note::SEEN] = 1;
 }
 
@@ -62,9 +52,9 @@ pub fn settle(notes: &mut Notes) {
 // The file is at its end.
 pub fn end(notes: &mut Notes) {
     settle(notes);
-    say_number(b"", notes[Note::CASES]);
-    say_number(b" cases replayed, ", notes[Note::DIFFER]);
-    say(b" differ\n");
+    say::number(b"", notes[Note::CASES]);
+    say::number(b" cases replayed, ", notes[Note::DIFFER]);
+    say::text(b" differ\n");
 }
 
 // ---- the answers of calls
@@ -78,7 +68,7 @@ fn say_word(table: &[u8], word: u64) {
             at = std::num::wrapping_add_u64(at, 1);
         } else if at == word {
             let e = i + 1;
-            say(&table[i..e]);
+            say::text(&table[i..e]);
         }
         i += 1;
     }
@@ -99,9 +89,9 @@ pub fn gave(notes: &mut Notes, call: u64, of: u64, place: u64, expected: u64, fo
 }
 
 fn say_place(of: u64, place: u64) {
-    say_number(b" ", of);
+    say::number(b" ", of);
     if place < 16 {
-        say_number(b", place ", place);
+        say::number(b", place ", place);
     }
 }
 

@@ -1,6 +1,5 @@
 // Where regions come from: files that are named as arguments, or standard input.
 use crate::judge;
-use crate::say;
 use libc::STDIN_FILENO;
 
 // What is left of the input is counted, and not kept. The number is 0 where nothing is left, or cannot be read.

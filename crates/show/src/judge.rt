@@ -1,8 +1,5 @@
 // Whether a region is good, and what it is shown as.
 ghost use Rattle.region.specs.Region.{Laid};
-use crate::broken;
-use crate::faults;
-use crate::say;
 use crate::store;
 use region::Layout;
 

@@ -1,10 +1,9 @@
 // A good region.
 ghost use Rattle.model.specs.Fine.{Fine};
 ghost use Rattle.region.specs.Region.{view, Laid};
-use crate::entries;
-use crate::log;
-use crate::prepared;
-use crate::say;
+use listing::entries;
+use listing::log;
+use outlook::prepared;
 use region::Layout;
 
 fn head(region: &[u8])

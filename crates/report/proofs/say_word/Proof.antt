@@ -23,17 +23,17 @@ wrapping-add-u64-requires c κs = search needs
 add-e : tie.Need-add-e Inv-loop μ-loop
 add-e c = search needs
 
-sub-say : tie.Need-sub-say Inv-loop μ-loop
-sub-say c = search needs
+sub-text : tie.Need-sub-text Inv-loop μ-loop
+sub-text c = search needs
 
-part-say-start : tie.Need-part-say-start Inv-loop μ-loop
-part-say-start c = search needs
+part-text-start : tie.Need-part-text-start Inv-loop μ-loop
+part-text-start c = search needs
 
-part-say-end : tie.Need-part-say-end Inv-loop μ-loop
-part-say-end c = search needs
+part-text-end : tie.Need-part-text-end Inv-loop μ-loop
+part-text-end c = search needs
 
-say-requires : tie.Need-say-requires Inv-loop μ-loop
-say-requires c κs = search needs
+text-requires : tie.Need-text-requires Inv-loop μ-loop
+text-requires c κs = search needs
 
 add-i : tie.Need-add-i Inv-loop μ-loop
 add-i c = search needs
@@ -57,10 +57,10 @@ say-word-spec =
     shared-slice-read-if1
     wrapping-add-u64-requires
     add-e
-    sub-say
-    part-say-start
-    part-say-end
-    say-requires
+    sub-text
+    part-text-start
+    part-text-end
+    text-requires
     add-i
     loop-less
     loop-again
