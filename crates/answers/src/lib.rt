@@ -65,6 +65,12 @@ impl Answer {
     pub const BAD_LOAD: u32 = 21;
 
     pub const NOTHING_THERE: u32 = 22;
+
+    pub const MALFORMED_RECORD: u32 = 23;
+
+    pub const UNKNOWN_VERSION: u32 = 24;
+
+    pub const SHORT_BUFFER: u32 = 33;
 }
 
 // What a call answers: its number, and every place of the record. So equal answers are equal verdicts.
@@ -160,6 +166,9 @@ impl Verdict {
             Refusal::WrongLock => Verdict::bare(Answer::WRONG_LOCK),
             Refusal::BadLoad => Verdict::bare(Answer::BAD_LOAD),
             Refusal::NothingThere => Verdict::bare(Answer::NOTHING_THERE),
+            Refusal::MalformedRecord => Verdict::bare(Answer::MALFORMED_RECORD),
+            Refusal::UnknownVersion => Verdict::bare(Answer::UNKNOWN_VERSION),
+            Refusal::ShortBuffer => Verdict::bare(Answer::SHORT_BUFFER),
         }
     }
 

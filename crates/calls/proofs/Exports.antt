@@ -1,5 +1,5 @@
 -- What specs/Exports.antt states, proved. Assumes nothing.
-use mathlib.Core.Path.{_≡_, refl, sym, ap, _∙_}
+use mathlib.Core.Path.{_≡_, refl, sym, ap, subst, _∙_}
 use mathlib.Core.Bool.{Bool, true, false, cond}
 use mathlib.Core.List.{List, [], _∷_}
 use mathlib.Core.Option.{Option, none, some}
@@ -10,10 +10,12 @@ use lib.Dec.{eqb}
 use borrow.Author.Tests.{eq-eqb}
 use Rattle.model.specs.declared.WriteReflog.{WriteReflog}
 use Rattle.model.specs.declared.WriteReflog.the-variants.{Disable}
-use Rattle.model.specs.declared.Refusal.the-variants.{BadRegion, Malformed}
+use Rattle.model.specs.declared.Refusal.{Refusal}
+use Rattle.model.specs.declared.Refusal.the-variants.{BadRegion, Malformed, NotRegistered, ReferenceCycle, TooManyRows, MultipleEdits, PackedTransactionAcquire, LockAcquire, DeleteReferenceMustExist, MustNotExist, MustExist, ReferenceOutOfDate, DeleteMustNotExist, LogFull, WrongState, BadName, NamesFull, WrongLock, BadLoad, NothingThere, MalformedRecord, UnknownVersion, ShortBuffer}
 use Rattle.model.specs.Store.{Store, empty}
 use Rattle.model.specs.Commit.Stop.{noCommitter, usedUp}
-use Rattle.model.specs.Outcome.{orRefuse}
+use Rattle.model.specs.Outcome.{Outcome, orRefuse}
+use Rattle.model.specs.Outcome.Outcome.{refuse, pass}
 use Rattle.model.specs.Reply.{Call, Reply, _>>=_}
 use Rattle.model.specs.Reply.Call.{start, addName, nameBytes, loadLoose, loadPacked, lockName, unlockName, lockPacked, unlockPacked, prepare, commit, rollback, readName, readLine, readRow}
 use Rattle.model.specs.Reply.Reply.{done, stopped, refused}
@@ -25,18 +27,19 @@ use Rattle.answers.specs.declared.Verdict.{Verdict}
 use Rattle.model.specs.Reached.{Reached, leaves}
 use Rattle.model.specs.Reached.Reached.{begun, after}
 use Rattle.model.proofs.Kept.{reached-sound}
+use Rattle.settings.specs.Format.{Settings, read}
 use Rattle.region.specs.Layout.{regionSize}
 use Rattle.region.specs.Region.{image, decode}
 use Rattle.region.proofs.Sized.{length-image}
 use Rattle.region.proofs.Decode.{decoded, decode-image}
-use Rattle.calls.specs.Call.{stepOn, replyTo, regionAfter, Out, outOf, untouched, call, Did}
-use Rattle.calls.specs.Exports.{Determined, BelowDetermined, PartDetermined, Unchanged, GotReached}
-use Rattle.calls.specs.Exports.Got.{begun as got·begun, after as got·after}
+use Rattle.calls.specs.Call.{sized, startFrom, stepOn, replyTo, replyToRecord, regionAfter, Out, outOf, untouched, call, startCall, Did}
+use Rattle.calls.specs.Exports.{Determined, BelowDetermined, PartDetermined, Unchanged, StartUnchanged, GotReached}
+use Rattle.calls.specs.Exports.Got.{begun as got·begun, begunWith as got·begunWith, after as got·after, afterWith as got·afterWith}
 
 -- ---- determined
 
 pub determined : Determined
-determined c r a n n′ a₁ a₂ lent₁ lent₂ d e = (d .code ∙ sym (e .code), d .answer ∙ sym (e .answer), d .lent ∙ sym (e .lent))
+determined o n n′ a₁ a₂ lent₁ lent₂ d e = (d .code ∙ sym (e .code), d .answer ∙ sym (e .answer), d .lent ∙ sym (e .lent))
 
 -- a verdict is its answer
 verdict : Answer → Verdict
@@ -44,7 +47,7 @@ verdict x = record { number = x .number; places = x .places }
 
 pub below-determined : BelowDetermined
 unfolding verdict
-below-determined c r v v′ r₁ r₂ d e = (ap verdict (d .answer ∙ sym (e .answer)), d .region ∙ sym (e .region))
+below-determined reply r v v′ r₁ r₂ d e = (ap verdict (d .answer ∙ sym (e .answer)), d .region ∙ sym (e .region))
 
 pub part-determined : PartDetermined
 part-determined n r p q d e = d ∙ sym e
@@ -163,9 +166,96 @@ starts k r a a′ r′ d = go (eqb (length a) 128) (eqb (length r) regionSize) (
     go true true none e f = absurd (omega arith)
     go true true (some setting) e f = reached-image r′ (empty setting) (begun setting) (only r′ (image (empty setting)) f)
 
+-- ---- start with a record
+
+-- it comes to a refusal, or to an empty store
+record-replies : (P : Reply → Type 0) (bytes r : List ℕ) → ((x : Refusal) → P (refused x)) → ((setting : WriteReflog) → P (done (empty setting) nothing))
+    → P (replyToRecord bytes r)
+unfolding replyToRecord step started
+record-replies P bytes r f g = go (eqb (length r) regionSize) (read 2 bytes)
+  where
+    known : (o : Option WriteReflog) → P (orRefuse Malformed o >>= λ setting. done (empty setting) nothing)
+    known none = f Malformed
+    known (some setting) = g setting
+
+    go : (b : Bool) (o : Outcome Settings) → P (startFrom o (cond b (some (empty Disable)) none))
+    go false (refuse x) = f BadRegion
+    go false (pass settings) = f BadRegion
+    go true (refuse x) = f x
+    go true (pass settings) = known (settingOf (settings .log))
+
+pub start-unchanged : StartUnchanged
+unfolding startCall outOf answerOf
+start-unchanged bytes r a n a′ lent d not-done =
+    record-replies (λ (reply : Reply). Kept (eqb (length a) 128) reply) bytes r (λ x. same (eqb (length a) 128) x) (λ setting. new (eqb (length a) 128) setting) (d .code) (d .lent)
+  where
+    Kept : Bool → Reply → Type 0
+    Kept b reply = n ≡ chosen b reply r a .code → lent ≡ chosen b reply r a .lent → lent ≡ r ∷ []
+
+    same : (b : Bool) (x : Refusal) → Kept b (refused x)
+    same false x e f = f
+    same true x e f = f
+
+    new : (b : Bool) (setting : WriteReflog) → Kept b (done (empty setting) nothing)
+    new false setting e f = f
+    new true setting e f = absurd (not-done e)
+
+-- a refusal's number is not that of done
+refusal-number : (x : Refusal) → 0 ≡ refusalAnswer x .number → ⊥
+unfolding refusalAnswer
+refusal-number BadRegion e = omega arith
+refusal-number Malformed e = omega arith
+refusal-number (NotRegistered n) e = omega arith
+refusal-number ReferenceCycle e = omega arith
+refusal-number TooManyRows e = omega arith
+refusal-number (MultipleEdits n) e = omega arith
+refusal-number PackedTransactionAcquire e = omega arith
+refusal-number (LockAcquire n) e = omega arith
+refusal-number (DeleteReferenceMustExist n) e = omega arith
+refusal-number (MustNotExist n t u) e = omega arith
+refusal-number (MustExist n t) e = omega arith
+refusal-number (ReferenceOutOfDate n t u) e = omega arith
+refusal-number (DeleteMustNotExist n) e = omega arith
+refusal-number LogFull e = omega arith
+refusal-number WrongState e = omega arith
+refusal-number BadName e = omega arith
+refusal-number NamesFull e = omega arith
+refusal-number WrongLock e = omega arith
+refusal-number BadLoad e = omega arith
+refusal-number NothingThere e = omega arith
+refusal-number MalformedRecord e = omega arith
+refusal-number UnknownVersion e = omega arith
+refusal-number ShortBuffer e = omega arith
+
+abbrev Held : List ℕ → Type 0
+Held r = (t : Store) × (decode r ≡ some t) × Reached t
+
+-- a region that held a reached store, or one that was started, holds one
+starts-with : (bytes r a : List ℕ) (n : ℕ) (a′ r′ : List ℕ) → Did (startCall bytes r a) n a′ (r′ ∷ []) → ((n ≡ 0 → ⊥) → Held r) → Held r′
+unfolding startCall outOf answerOf
+starts-with bytes r a n a′ r′ d before =
+    record-replies (λ (reply : Reply). Ends (eqb (length a) 128) reply) bytes r (λ x. same (eqb (length a) 128) x) (λ setting. new (eqb (length a) 128) setting) (d .code) (d .lent)
+  where
+    Ends : Bool → Reply → Type 0
+    Ends b reply = n ≡ chosen b reply r a .code → r′ ∷ [] ≡ chosen b reply r a .lent → Held r′
+
+    still : (n ≡ 0 → ⊥) → r′ ∷ [] ≡ r ∷ [] → Held r′
+    still h f = subst Held (sym (only r′ r f)) (before h)
+
+    same : (b : Bool) (x : Refusal) → Ends b (refused x)
+    same false x e f = still (λ q. omega arith) f
+    same true x e f = still (λ q. refusal-number x (sym q ∙ e)) f
+
+    new : (b : Bool) (setting : WriteReflog) → Ends b (done (empty setting) nothing)
+    new false setting e f = still (λ q. omega arith) f
+    new true setting e f = reached-image r′ (empty setting) (begun setting) (only r′ (image (empty setting)) f)
+
 -- ---- any calls
 
 pub got-reached : GotReached
 got-reached r (got·begun k r₀ a a′ _ d) = starts k r₀ a a′ r d
+got-reached r (got·begunWith bytes r₀ a a′ _ d) = starts-with bytes r₀ a 0 a′ r d (λ h. absurd (h refl))
 got-reached r (got·after {r = r₀} g c n a a′ _ d) =
     let h = got-reached r₀ g in goes-on c r₀ a n a′ r (h .0) (h .1) (h .2) d
+got-reached r (got·afterWith {r = r₀} g bytes n a a′ _ d) =
+    let held = got-reached r₀ g in starts-with bytes r₀ a n a′ r d (λ _. held)

@@ -8,7 +8,7 @@ use Rattle.model.specs.declared.Refusal.{Refusal}
 use Rattle.model.specs.declared.Refusal.the-variants.{BadRegion}
 use Rattle.model.specs.Store.{Store}
 use Rattle.model.specs.Fine.{Fine}
-use Rattle.model.specs.Reply.{Call, Given}
+use Rattle.model.specs.Reply.{Call, Reply, Given}
 use Rattle.model.specs.Reply.Reply.{done, refused}
 use Rattle.model.specs.Calls.{step}
 use Rattle.model.specs.Numbers.{answer, answerOf, givenPlaces, refusalAnswer}
@@ -29,10 +29,9 @@ good-fine r ok is y = good-parts r (sym is ∙ not-false ok y) .1
 -- ---- the ways to answer
 
 -- a refusal, with the region as it is
-pub refuses : (c : Call) (r : List ℕ) (x : Refusal) (v : Verdict) → answerBy v ≡ refusalAnswer x → replyTo c r ≡ refused x
-    → Replied v r r (replyTo c r)
+pub refuses : (reply : Reply) (r : List ℕ) (x : Refusal) (v : Verdict) → answerBy v ≡ refusalAnswer x → reply ≡ refused x → Replied v r r reply
 unfolding answerOf
-refuses c r x v a e = rw e (record { answer = a; region = refl })
+refuses reply r x v a e = rw e (record { answer = a; region = refl })
 
 module _ (c : Call) (r : List ℕ) (ok : Bool) (is : ok ≡ good r) (looks : isStart c ≡ false) where
   finds : found c r ≡ decode r
@@ -40,7 +39,7 @@ module _ (c : Call) (r : List ℕ) (ok : Bool) (is : ok ≡ good r) (looks : isS
 
   pub bad-region : (v : Verdict) → not ok ≡ true → answerBy v ≡ answer 1 [] → Replied v r r (replyTo c r)
   unfolding replyTo refusalAnswer
-  bad-region v n a = refuses c r BadRegion v a (ap (stepOn c) (finds ∙ decode-bad r (sym is ∙ not-true ok n)))
+  bad-region v n a = refuses (replyTo c r) r BadRegion v a (ap (stepOn c) (finds ∙ decode-bad r (sym is ∙ not-true ok n)))
 
   module _ (y : not ok ≡ false) where
     pub replies : replyTo c r ≡ step c (view r)
@@ -48,7 +47,7 @@ module _ (c : Call) (r : List ℕ) (ok : Bool) (is : ok ≡ good r) (looks : isS
     replies = ap (stepOn c) (finds ∙ decode-good r (sym is ∙ not-false ok y))
 
     pub says-no : (x : Refusal) (v : Verdict) → answerBy v ≡ refusalAnswer x → step c (view r) ≡ refused x → Replied v r r (replyTo c r)
-    says-no x v a e = refuses c r x v a (replies ∙ e)
+    says-no x v a e = refuses (replyTo c r) r x v a (replies ∙ e)
 
     -- done, and the region became that of the new store
     pub says-done : (v : Verdict) (s : Store) (g : Given) (r′ : List ℕ) → step c (view r) ≡ done s g

@@ -15,7 +15,10 @@ use Rattle.model.specs.Reply.{Call, Reply}
 use Rattle.model.specs.Reply.Call.{start, addName, nameBytes, loadLoose, loadPacked, lockName, unlockName, lockPacked, unlockPacked, prepare, commit, rollback, readName, readLine, readRow}
 use Rattle.model.specs.Reply.Reply.{done, stopped, refused}
 use Rattle.model.specs.Calls.{step}
+use Rattle.model.specs.Outcome.{Outcome}
+use Rattle.model.specs.Outcome.Outcome.{refuse, pass}
 use Rattle.model.specs.Numbers.{answerOf}
+use Rattle.settings.specs.Format.{Settings, read}
 use Rattle.region.specs.Layout.{regionSize}
 use Rattle.region.specs.Region.{image, decode, nameOffset}
 use Rattle.answers.specs.declared.Verdict.{Verdict}
@@ -58,6 +61,19 @@ stepOn c (some s) = step c s
 unfoldable pub replyTo : Call → List ℕ → Reply
 replyTo c r = stepOn c (found c r)
 
+-- ---- start with a settings record in place of a bare setting: 1, then the record's own refusals, then as start with its log setting
+
+abbrev pub startFrom : Outcome Settings → Option Store → Reply
+startFrom o none = refused BadRegion
+startFrom (refuse x) (some s) = refused x
+startFrom (pass settings) (some s) = step (start (settings .log)) s
+
+-- versions 1 and 2 are read
+unfoldable pub replyToRecord : List ℕ → List ℕ → Reply
+replyToRecord bytes r = startFrom (read 2 bytes) (sized r)
+
+-- ---- what is left and answered
+
 -- the region that a reply leaves: the image of its store; a refusal leaves the region as it is
 abbrev pub regionAfter : Reply → List ℕ → List ℕ
 regionAfter (done s given) r = image s
@@ -82,8 +98,14 @@ outOf reply r = record {
 abbrev pub untouched : List ℕ → List (List ℕ) → Out
 untouched a lent = record { code = 1; answer = a; lent = lent }
 
+abbrev pub replied : Reply → List ℕ → List ℕ → Out
+replied reply r a = cond (eqb (length a) 128) (outOf reply r) (untouched a (r ∷ []))
+
 unfoldable pub call : Call → List ℕ → List ℕ → Out
-call c r a = cond (eqb (length a) 128) (outOf (replyTo c r) r) (untouched a (r ∷ []))
+call c r a = replied (replyTo c r) r a
+
+unfoldable pub startCall : List ℕ → List ℕ → List ℕ → Out
+startCall bytes r a = replied (replyToRecord bytes r) r a
 
 -- the contract of every exported call: its number, the record and the lent buffers as it leaves them
 pub record Did (o : Out) (n : ℕ) (a : List ℕ) (buffers : List (List ℕ)) : Type 0 where

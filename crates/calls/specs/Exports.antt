@@ -1,32 +1,32 @@
--- What is proved of every call that keeps the contract `Did (call c r a)`, whatever the call. Every exported call has it. The
--- proofs stand in proofs/Exports.antt.
+-- What is proved of every call that keeps the contract `Did (call c r a)`, whatever the call, and of start with a settings record.
+-- Every exported call on a region has one of the two. The proofs stand in proofs/Exports.antt.
 use mathlib.Core.Path.{_≡_}
 use mathlib.Core.List.{List, [], _∷_}
 use mathlib.Core.Option.{some}
 use Prim.Native.Nat.{ℕ}
 use Rattle.model.specs.Store.{Store}
-use Rattle.model.specs.Reply.{Call}
+use Rattle.model.specs.Reply.{Call, Reply}
 use Rattle.model.specs.Reply.Call.{start}
 use Rattle.model.specs.Reached.{Reached}
 use Rattle.region.specs.Region.{decode}
 use Rattle.answers.specs.declared.Verdict.{Verdict}
-use Rattle.calls.specs.Call.{replyTo, call, Did, Replied, namePart}
+use Rattle.calls.specs.Call.{Out, call, startCall, Did, Replied, namePart}
 
--- ---- determined: two results that satisfy the contract are equal
+-- ---- determined: two results that satisfy the contract of an exported call are equal, whatever it says is to come out
 
 abbrev pub Determined : Type 0
 Determined =
-    (c : Call) (r a : List ℕ) (n n′ : ℕ) (a₁ a₂ : List ℕ) (lent₁ lent₂ : List (List ℕ))
-    → Did (call c r a) n a₁ lent₁
-    → Did (call c r a) n′ a₂ lent₂
+    (o : Out) (n n′ : ℕ) (a₁ a₂ : List ℕ) (lent₁ lent₂ : List (List ℕ))
+    → Did o n a₁ lent₁
+    → Did o n′ a₂ lent₂
     → (n ≡ n′) × (a₁ ≡ a₂) × (lent₁ ≡ lent₂)
 
 -- so are two results of the functions below the exports
 abbrev pub BelowDetermined : Type 0
 BelowDetermined =
-    (c : Call) (r : List ℕ) (v v′ : Verdict) (r₁ r₂ : List ℕ)
-    → Replied v r r₁ (replyTo c r)
-    → Replied v′ r r₂ (replyTo c r)
+    (reply : Reply) (r : List ℕ) (v v′ : Verdict) (r₁ r₂ : List ℕ)
+    → Replied v r r₁ reply
+    → Replied v′ r r₂ reply
     → (v ≡ v′) × (r₁ ≡ r₂)
 
 -- the contract of the function that returns the part of a name
@@ -44,12 +44,21 @@ Unchanged =
     → (n ≡ 17 → ⊥)
     → lent ≡ r ∷ []
 
--- ---- what is got from any bytes by start and then any calls
+abbrev pub StartUnchanged : Type 0
+StartUnchanged =
+    (bytes r a : List ℕ) (n : ℕ) (a′ : List ℕ) (lent : List (List ℕ))
+    → Did (startCall bytes r a) n a′ lent
+    → (n ≡ 0 → ⊥)
+    → lent ≡ r ∷ []
+
+-- ---- what is got from any bytes by start, with a setting or with a record, and then any calls
 
 -- refused calls and records of any size included
 pub data Got : List ℕ → Type 0 where
   begun : (setting : ℕ) (r a a′ r′ : List ℕ) → Did (call (start setting) r a) 0 a′ (r′ ∷ []) → Got r′
+  begunWith : (bytes r a a′ r′ : List ℕ) → Did (startCall bytes r a) 0 a′ (r′ ∷ []) → Got r′
   after : {r : List ℕ} → Got r → (c : Call) (n : ℕ) (a a′ r′ : List ℕ) → Did (call c r a) n a′ (r′ ∷ []) → Got r′
+  afterWith : {r : List ℕ} → Got r → (bytes : List ℕ) (n : ℕ) (a a′ r′ : List ℕ) → Did (startCall bytes r a) n a′ (r′ ∷ []) → Got r′
 
 -- decodes to a reached store
 abbrev pub GotReached : Type 0

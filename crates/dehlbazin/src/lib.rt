@@ -3,7 +3,10 @@
 ghost use mathlib.Core.List.{[], _∷_};
 ghost use Rattle.model.specs.Reply.Call.{start, addName, nameBytes, loadLoose, loadPacked, lockName, unlockName};
 ghost use Rattle.model.specs.Reply.Call.{lockPacked, unlockPacked, prepare, commit, rollback, readName, readLine, readRow};
-ghost use Rattle.calls.specs.Call.{call, Did};
+ghost use Rattle.settings.specs.Format.{settingsGiven, committersGiven};
+ghost use Rattle.calls.specs.Call.{call, startCall, Did};
+ghost use Rattle.records.specs.Record.{recordCall};
+ghost use Rattle.records.specs.Record.RecordCall.{readSettings, readCommitter, writeSettings};
 use answers::Answer;
 
 // Makes an empty store, whatever the region held.
@@ -15,6 +18,22 @@ pub extern "C" fn dehlbazin_start(region: &mut [u8], setting: u64, answer: &mut 
         return Answer::BAD_REGION;
     }
     let verdict = calls::start_with(region, setting);
+    answers::finish(answer, verdict)
+}
+
+// The same with the log setting of a settings record, of version 1 or 2.
+#[no_mangle]
+pub extern "C" fn dehlbazin_start_with_settings(
+    region: &mut [u8],
+    bytes: &[u8],
+    answer: &mut [u8],
+) -> u32
+    ensures { λ r. ⌜ Did (startCall (now (bytes .entry)) (now (region .entry)) (now (answer .entry))) r (now (answer .exit)) (now (region .exit) ∷ []) ⌝ }
+{
+    if answer.len() != Answer::SIZE {
+        return Answer::BAD_REGION;
+    }
+    let verdict = calls::start_with_settings(region, bytes);
     answers::finish(answer, verdict)
 }
 
@@ -210,5 +229,67 @@ pub extern "C" fn dehlbazin_read_row(region: &[u8], place: u64, answer: &mut [u8
         return Answer::BAD_REGION;
     }
     let verdict = reads::read_row(region, place);
+    answers::finish(answer, verdict)
+}
+
+// ---- settings records, with no region
+
+// What a settings record says, to a reader that knows versions up to the one given: log setting, usual mode, site, how many committers.
+#[no_mangle]
+pub extern "C" fn dehlbazin_read_settings(bytes: &[u8], known: u64, answer: &mut [u8]) -> u32
+    ensures { λ r. ⌜ Did (recordCall (readSettings known) (now (bytes .entry)) (now (answer .entry))) r (now (answer .exit)) (now (bytes .entry) ∷ []) ⌝ }
+{
+    if answer.len() != Answer::SIZE {
+        return Answer::BAD_REGION;
+    }
+    let verdict = records::read_settings(bytes, known);
+    answers::finish(answer, verdict)
+}
+
+// A committer of it by place: its number, and where its name stands in the record.
+#[no_mangle]
+pub extern "C" fn dehlbazin_read_committer(
+    bytes: &[u8],
+    known: u64,
+    place: u64,
+    answer: &mut [u8],
+) -> u32
+    ensures { λ r. ⌜ Did (recordCall (readCommitter known place) (now (bytes .entry)) (now (answer .entry))) r (now (answer .exit)) (now (bytes .entry) ∷ []) ⌝ }
+{
+    if answer.len() != Answer::SIZE {
+        return Answer::BAD_REGION;
+    }
+    let verdict = records::read_committer(bytes, known, place);
+    answers::finish(answer, verdict)
+}
+
+// Writes a settings record at the beginning of a buffer: its length.
+#[no_mangle]
+pub extern "C" fn dehlbazin_write_settings(
+    buffer: &mut [u8],
+    version: u64,
+    log: u64,
+    mode: u64,
+    site: u64,
+    numbers: &[u64],
+    lengths: &[u64],
+    names: &[u8],
+    answer: &mut [u8],
+) -> u32
+    ensures { λ r. ⌜ Did (recordCall (writeSettings version (settingsGiven log mode site (committersGiven (now (numbers .entry)) (now (lengths .entry)) (now (names .entry))))) (now (buffer .entry)) (now (answer .entry))) r (now (answer .exit)) (now (buffer .exit) ∷ []) ⌝ }
+{
+    if answer.len() != Answer::SIZE {
+        return Answer::BAD_REGION;
+    }
+    let verdict = records::write_settings(
+        buffer,
+        version,
+        log,
+        mode,
+        site,
+        numbers,
+        lengths,
+        names,
+    );
     answers::finish(answer, verdict)
 }

@@ -30,6 +30,9 @@ some-is e = cc
 pub pass-is : {A : Type 0} {a b : A} → pass a ≡ pass b → a ≡ b
 pass-is e = cc
 
+pub refuse-is : {A : Type 0} {r r′ : Refusal} → _≡_ {A = Outcome A} (refuse r) (refuse r′) → r ≡ r′
+refuse-is e = cc
+
 -- ---- chains
 
 pub pass-inv : {A B : Type 0} (m : Outcome A) (f : A → Outcome B) (b : B)

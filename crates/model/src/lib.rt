@@ -83,6 +83,9 @@ pub enum Refusal {
     WrongLock,
     BadLoad,
     NothingThere,
+    MalformedRecord,
+    UnknownVersion,
+    ShortBuffer,
 }
 
 // What a part of prepare that may refuse comes to.

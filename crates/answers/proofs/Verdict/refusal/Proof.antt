@@ -171,6 +171,30 @@ enum-told-12 c = search needs
 bare-requires-12 : tie.Need-bare-requires-12
 bare-requires-12 c κs = search needs
 
+-- src/lib.rt:148:38
+enum-told-13 : tie.Need-enum-told-13
+enum-told-13 c = search needs
+
+-- src/lib.rt:148:38
+bare-requires-13 : tie.Need-bare-requires-13
+bare-requires-13 c κs = search needs
+
+-- src/lib.rt:148:38
+enum-told-14 : tie.Need-enum-told-14
+enum-told-14 c = search needs
+
+-- src/lib.rt:148:38
+bare-requires-14 : tie.Need-bare-requires-14
+bare-requires-14 c κs = search needs
+
+-- src/lib.rt:148:38
+enum-told-15 : tie.Need-enum-told-15
+enum-told-15 c = search needs
+
+-- src/lib.rt:148:38
+bare-requires-15 : tie.Need-bare-requires-15
+bare-requires-15 c κs = search needs
+
 -- src/lib.rt:122:5
 returns : tie.Need-returns
 unfolding refusalAnswer
@@ -271,6 +295,21 @@ returns-20 : tie.Need-returns-20
 unfolding refusalAnswer
 returns-20 c = told _ _ _ (c .before .enum-told12 .given .1) (c .bare12 .ensures)
 
+-- src/lib.rt:122:5
+returns-21 : tie.Need-returns-21
+unfolding refusalAnswer
+returns-21 c = told _ _ _ (c .before .enum-told13 .given .1) (c .bare13 .ensures)
+
+-- src/lib.rt:122:5
+returns-22 : tie.Need-returns-22
+unfolding refusalAnswer
+returns-22 c = told _ _ _ (c .before .enum-told14 .given .1) (c .bare14 .ensures)
+
+-- src/lib.rt:122:5
+returns-23 : tie.Need-returns-23
+unfolding refusalAnswer
+returns-23 c = told _ _ _ (c .before .enum-told15 .given .1) (c .bare15 .ensures)
+
 pub refusal-spec : {M : Type 1} → statement M
 refusal-spec =
     tie.close
@@ -315,6 +354,12 @@ refusal-spec =
     bare-requires-11
     enum-told-12
     bare-requires-12
+    enum-told-13
+    bare-requires-13
+    enum-told-14
+    bare-requires-14
+    enum-told-15
+    bare-requires-15
     returns
     returns-2
     returns-3
@@ -334,4 +379,7 @@ refusal-spec =
     returns-17
     returns-18
     returns-19
-    returns-20)
+    returns-20
+    returns-21
+    returns-22
+    returns-23)
