@@ -1,0 +1,6 @@
+pub mod Entries
+pub mod Committers
+pub mod Whole
+pub mod Told
+pub mod Places
+pub mod Found
