@@ -1,6 +1,6 @@
 //! What an entry answers: a number, and a record of 16 places.
 
-use crate::{Committer, Message, NameNumber, ObjectNumber, Refusal, Target};
+use crate::{Committer, Message, NameNumber, ObjectNumber, PackedRefs, Refusal, Setting, Site, Target};
 
 pub(crate) const ANSWER_SIZE: usize = 128;
 pub(crate) type Record = [u8; ANSWER_SIZE];
@@ -43,6 +43,25 @@ impl Answer {
 
     pub(crate) fn message(&self, i: usize) -> Option<Message> {
         Message::new(self.place(i)).ok()
+    }
+
+    pub(crate) fn setting(&self, i: usize) -> Option<Setting> {
+        Setting::of(self.place(i))
+    }
+
+    pub(crate) fn mode(&self, i: usize) -> Option<PackedRefs> {
+        PackedRefs::of(self.place(i))
+    }
+
+    pub(crate) fn site(&self, i: usize) -> Option<Site> {
+        Site::new(self.place(i)).ok()
+    }
+
+    /// The stretch of these bytes that two places say, by its offset and its length.
+    pub(crate) fn stretch<'b>(&self, i: usize, bytes: &'b [u8]) -> Option<&'b [u8]> {
+        let offset = usize::try_from(self.place(i)).ok()?;
+        let length = usize::try_from(self.place(i + 1)).ok()?;
+        bytes.get(offset..)?.get(..length)
     }
 
     pub(crate) fn flag(&self, i: usize) -> Option<bool> {

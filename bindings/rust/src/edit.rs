@@ -194,6 +194,15 @@ impl PackedRefs {
             PackedRefs::DeletionsAndNonSymbolicUpdatesRemoveLooseSourceReference => 3,
         }
     }
+
+    pub(crate) fn of(number: u64) -> Option<PackedRefs> {
+        match number {
+            1 => Some(PackedRefs::DeletionsOnly),
+            2 => Some(PackedRefs::DeletionsAndNonSymbolicUpdates),
+            3 => Some(PackedRefs::DeletionsAndNonSymbolicUpdatesRemoveLooseSourceReference),
+            _ => None,
+        }
+    }
 }
 
 /// The edits of a transaction, at most 32.

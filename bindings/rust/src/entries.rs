@@ -1,11 +1,12 @@
-//! The fifteen entries of the archive, and the only `unsafe` of this crate: they are declared here, and each is called here
+//! The nineteen entries of the archive, and the only `unsafe` of this crate: they are declared here, and each is called here
 //! from a function that is safe to call.
 //!
 //! Three things hold of every call below, which the archive cannot test (include/dehlbazin.h):
 //! - Each pointer is good for the length beside it, since both are taken from one reference.
 //! - What is lent lies apart. The region is borrowed alone (`&mut`) where the call writes it, so that no other reference leads
-//!   into it. Where the call only reads it (`&`), nothing that is written is lent beside it but the record. The record is a new
-//!   array of [`ask`], which nobody else knows.
+//!   into it. Where the call only reads it (`&`), nothing that is written is lent beside it but the answer record. That is a
+//!   new array of [`ask`], which nobody else knows. With a settings record it is the same: the buffer that one is written to
+//!   is borrowed alone, and beside one that is read nothing else is written.
 //! - Calls on one region come one after the other, for the same reason: `&mut` is held by one at a time, and calls that only
 //!   read do not disturb each other.
 //!
@@ -80,6 +81,39 @@ extern "C" {
         answer_len: usize,
     ) -> u32;
     fn dehlbazin_read_row(region: *const u8, region_len: usize, place: u64, answer: *mut u8, answer_len: usize) -> u32;
+    fn dehlbazin_start_with_settings(
+        region: *mut u8,
+        region_len: usize,
+        record: *const u8,
+        record_len: usize,
+        answer: *mut u8,
+        answer_len: usize,
+    ) -> u32;
+    fn dehlbazin_read_settings(record: *const u8, record_len: usize, known: u64, answer: *mut u8, answer_len: usize) -> u32;
+    fn dehlbazin_read_committer(
+        record: *const u8,
+        record_len: usize,
+        known: u64,
+        place: u64,
+        answer: *mut u8,
+        answer_len: usize,
+    ) -> u32;
+    fn dehlbazin_write_settings(
+        buffer: *mut u8,
+        buffer_len: usize,
+        version: u64,
+        log: u64,
+        mode: u64,
+        site: u64,
+        numbers: *const u64,
+        numbers_len: usize,
+        lengths: *const u64,
+        lengths_len: usize,
+        names: *const u8,
+        names_len: usize,
+        answer: *mut u8,
+        answer_len: usize,
+    ) -> u32;
 }
 
 /// Makes a call with a record of the right size, which it fills.
@@ -165,4 +199,51 @@ pub(crate) fn read_line(region: &Region, name: u64, place: u64) -> Answer {
 pub(crate) fn read_row(region: &Region, place: u64) -> Answer {
     // SAFETY: the region is only read, and the record is ask's own.
     ask(|answer, len| unsafe { dehlbazin_read_row(region.as_ptr(), REGION_SIZE, place, answer, len) })
+}
+
+pub(crate) fn start_with_settings(region: &mut Region, record: &[u8]) -> Answer {
+    let (at, size) = (record.as_ptr(), record.len());
+    // SAFETY: the region is borrowed alone, so the settings record lies elsewhere, and the answer record is ask's own.
+    ask(|answer, len| unsafe { dehlbazin_start_with_settings(region.as_mut_ptr(), REGION_SIZE, at, size, answer, len) })
+}
+
+pub(crate) fn read_settings(record: &[u8], known: u64) -> Answer {
+    // SAFETY: the settings record is only read, and the answer record is ask's own.
+    ask(|answer, len| unsafe { dehlbazin_read_settings(record.as_ptr(), record.len(), known, answer, len) })
+}
+
+pub(crate) fn read_committer(record: &[u8], known: u64, place: u64) -> Answer {
+    // SAFETY: the settings record is only read, and the answer record is ask's own.
+    ask(|answer, len| unsafe { dehlbazin_read_committer(record.as_ptr(), record.len(), known, place, answer, len) })
+}
+
+/// The numbers of a settings record that stand before its committers.
+pub(crate) struct Head {
+    pub(crate) version: u64,
+    pub(crate) log: u64,
+    pub(crate) mode: u64,
+    pub(crate) site: u64,
+}
+
+pub(crate) fn write_settings(buffer: &mut [u8], head: &Head, numbers: &[u64], lengths: &[u64], names: &[u8]) -> Answer {
+    // SAFETY: the buffer is borrowed alone, so the three lists lie elsewhere, and the answer record is ask's own. A list of
+    // numbers goes with how many it has.
+    ask(|answer, len| unsafe {
+        dehlbazin_write_settings(
+            buffer.as_mut_ptr(),
+            buffer.len(),
+            head.version,
+            head.log,
+            head.mode,
+            head.site,
+            numbers.as_ptr(),
+            numbers.len(),
+            lengths.as_ptr(),
+            lengths.len(),
+            names.as_ptr(),
+            names.len(),
+            answer,
+            len,
+        )
+    })
 }

@@ -24,6 +24,8 @@
 //! - Each call gives a [`Result`], with a [`Refusal`] that holds what comes with its number. Nothing here panics. A commit that
 //!   is stopped on its way is no refusal: it is an [`Outcome`], with the number of writes that were made.
 //! - A [`Store`] keeps no copy of anything: each call reads the region, and tests it whole first.
+//! - What a site keeps between runs is a record of its own: [`Settings`] are written to one, a [`SettingsView`] reads it, and
+//!   a store is started with it.
 //! - What no call can test, the borrow rules see to: that what is lent is there, that nothing overlaps, and that calls on one
 //!   region come one after the other. A [`NameNumber`] is no [`ObjectNumber`], and no number is shortened.
 #![deny(missing_docs)]
@@ -36,6 +38,7 @@ mod edit;
 mod entries;
 mod numbers;
 mod refusal;
+mod settings;
 mod store;
 mod target;
 mod transaction;
@@ -45,8 +48,9 @@ mod words;
 
 pub use edit::{Change, EditList, LogChange, PackedRefs, PreviousValue, RefEdit, RefLog};
 pub use entries::REGION_SIZE;
-pub use numbers::{Committer, Message, NameNumber, ObjectNumber};
+pub use numbers::{Committer, Message, NameNumber, ObjectNumber, Site};
 pub use refusal::Refusal;
+pub use settings::{Committers, NamedCommitter, Settings, SettingsView, Version};
 pub use store::{Outcome, Setting, Store, EVERY_WRITE};
 pub use target::{Loose, Target};
 pub use transaction::Transaction;
@@ -57,5 +61,5 @@ pub use words::InWords;
 /// A region of the right size. Bytes whose size is not known go to [`Store::open_in`] and [`Store::start_in`].
 pub type Region = [u8; REGION_SIZE];
 
-/// The version of the interface that this crate was written for, as `DEHLBAZIN_VERSION` of include/dehlbazin.h has it: 0.4.0.
-pub const VERSION: u32 = 4000;
+/// The version of the interface that this crate was written for, as `DEHLBAZIN_VERSION` of include/dehlbazin.h has it: 0.5.0.
+pub const VERSION: u32 = 5000;

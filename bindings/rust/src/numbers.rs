@@ -36,6 +36,10 @@ pub struct Committer(pub NonZeroU16);
 #[derive(Clone, Copy, Debug, Default, PartialEq, Eq, PartialOrd, Ord, Hash)]
 pub struct Message(pub u16);
 
+/// The number of a site, in its settings: 0 to 65,535.
+#[derive(Clone, Copy, Debug, Default, PartialEq, Eq, PartialOrd, Ord, Hash)]
+pub struct Site(pub u16);
+
 impl NameNumber {
     /// A number above 65,535 is no name's, and is refused as the calls would refuse it, with 3.
     pub fn new(number: u64) -> Result<NameNumber, Refusal> {
@@ -79,6 +83,18 @@ impl Message {
     }
 
     /// The number as the calls give it.
+    pub fn get(self) -> u64 {
+        u64::from(self.0)
+    }
+}
+
+impl Site {
+    /// A number above 65,535 is refused, as settings would be that have it, with 23.
+    pub fn new(number: u64) -> Result<Site, Refusal> {
+        u16::try_from(number).map(Site).map_err(|_| Refusal::MalformedRecord)
+    }
+
+    /// The number as the calls take it.
     pub fn get(self) -> u64 {
         u64::from(self.0)
     }

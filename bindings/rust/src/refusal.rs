@@ -99,8 +99,14 @@ pub enum Refusal {
     WrongLock,
     /// 21: a value that cannot be loaded there.
     BadLoad,
-    /// 22: there is no such log line or row.
+    /// 22: there is no such log line, row or committer.
     NothingThere,
+    /// 23: a settings record, or the settings to be written to one.
+    MalformedRecord,
+    /// 24: a settings record of a version that the reader does not know.
+    UnknownVersion,
+    /// 33: a buffer that is shorter than the settings record to be written there.
+    ShortBuffer,
     /// The archive gave what this crate does not know: it is of another version.
     Unexpected {
         /// The number that it gave.
@@ -136,6 +142,9 @@ impl Refusal {
             20 => Refusal::WrongLock,
             21 => Refusal::BadLoad,
             22 => Refusal::NothingThere,
+            23 => Refusal::MalformedRecord,
+            24 => Refusal::UnknownVersion,
+            33 => Refusal::ShortBuffer,
             _ => return None,
         })
     }
@@ -163,6 +172,9 @@ impl Refusal {
             Refusal::WrongLock => 20,
             Refusal::BadLoad => 21,
             Refusal::NothingThere => 22,
+            Refusal::MalformedRecord => 23,
+            Refusal::UnknownVersion => 24,
+            Refusal::ShortBuffer => 33,
             Refusal::Unexpected { number } => number,
         }
     }

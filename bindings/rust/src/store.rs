@@ -18,11 +18,20 @@ pub enum Setting {
 }
 
 impl Setting {
-    fn number(self) -> u64 {
+    pub(crate) fn number(self) -> u64 {
         match self {
             Setting::Never => 0,
             Setting::Normal => 1,
             Setting::Always => 2,
+        }
+    }
+
+    pub(crate) fn of(number: u64) -> Option<Setting> {
+        match number {
+            0 => Some(Setting::Never),
+            1 => Some(Setting::Normal),
+            2 => Some(Setting::Always),
+            _ => None,
         }
     }
 }
@@ -127,6 +136,30 @@ impl<'a> Store<'a> {
         Store::start(bytes.try_into().map_err(|_| Refusal::BadRegion)?, setting)
     }
 
+    /// Makes an empty store with the log setting of a settings record, of either version. Refused with 24 and 23 as
+    /// [`SettingsView::read`](crate::SettingsView::read) refuses a record, and then no byte of the region is changed.
+    ///
+    /// ```
+    /// use dehlbazin::{PackedRefs, Setting, Settings, Store, Version};
+    ///
+    /// let mut buffer = [0; Settings::MOST_BYTES];
+    /// let record = Settings::new(Setting::Always, PackedRefs::DeletionsOnly).write(Version::One, &mut buffer)?;
+    /// let (mut region, mut other) = (vec![0; dehlbazin::REGION_SIZE], vec![0; dehlbazin::REGION_SIZE]);
+    /// let store = Store::start_with_settings_in(&mut region, record)?;
+    /// assert!(store.region() == Store::start_in(&mut other, Setting::Always)?.region());
+    /// # Ok::<(), dehlbazin::Refusal>(())
+    /// ```
+    pub fn start_with_settings(region: &'a mut Region, record: &[u8]) -> Result<Store<'a>, Refusal> {
+        let mut store = Store { region };
+        store.restart_with_settings(record)?;
+        Ok(store)
+    }
+
+    /// The same in bytes whose size is not known. Refused with 1 where it is another, before the record is looked at.
+    pub fn start_with_settings_in(bytes: &'a mut [u8], record: &[u8]) -> Result<Store<'a>, Refusal> {
+        Store::start_with_settings(bytes.try_into().map_err(|_| Refusal::BadRegion)?, record)
+    }
+
     /// Takes up the store that stands there. Refused with 1 where the bytes are no good store. A transaction that was left
     /// prepared stays so: [`commit`](Store::commit) or [`rollback`](Store::rollback) end it.
     pub fn open(region: &'a mut Region) -> Result<Store<'a>, Refusal> {
@@ -147,6 +180,11 @@ impl<'a> Store<'a> {
     /// Makes it empty, with a log setting. What was there is gone, a transaction that was left prepared too.
     pub fn restart(&mut self, setting: Setting) -> Result<(), Refusal> {
         entries::start(self.region, setting.number()).done()
+    }
+
+    /// The same with the log setting of a settings record. Where the record is refused, with 24 or 23, all stays as it was.
+    pub fn restart_with_settings(&mut self, record: &[u8]) -> Result<(), Refusal> {
+        entries::start_with_settings(self.region, record).done()
     }
 }
 

@@ -76,11 +76,7 @@ impl<'a> View<'a> {
 
     /// The bytes of a name, where they stand in the region.
     pub fn name_bytes(self, name: NameNumber) -> Result<&'a [u8], Refusal> {
-        entries::name_bytes(self.region, name.get()).given(|answer| {
-            let offset = usize::try_from(answer.place(0)).ok()?;
-            let length = usize::try_from(answer.place(1)).ok()?;
-            self.region.get(offset..)?.get(..length)
-        })
+        entries::name_bytes(self.region, name.get()).given(|answer| answer.stretch(0, self.region))
     }
 
     /// The same as text: the bytes of a name are ASCII.

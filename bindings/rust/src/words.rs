@@ -151,7 +151,10 @@ fn of_nothing(refusal: Refusal) -> &'static str {
         Refusal::NamesFull => "256 names are held",
         Refusal::WrongLock => "the lock to be placed is not free, or the lock to be lifted is not foreign",
         Refusal::BadLoad => "this value cannot be loaded there",
-        Refusal::NothingThere => "there is no such log line or row",
+        Refusal::NothingThere => "there is no such log line, row or committer",
+        Refusal::MalformedRecord => "the settings record is malformed, or a setting is out of bounds",
+        Refusal::UnknownVersion => "the settings record has a version that is not known",
+        Refusal::ShortBuffer => "the buffer is shorter than the settings record",
         Refusal::NotRegistered { .. } => "no name has this number",
         Refusal::MustNotExist { .. } | Refusal::MustExist { .. } | Refusal::ReferenceOutOfDate { .. } => {
             "another value is there"

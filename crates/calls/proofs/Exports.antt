@@ -201,7 +201,7 @@ start-unchanged bytes r a n a′ lent d not-done =
     new true setting e f = absurd (not-done e)
 
 -- a refusal's number is not that of done
-refusal-number : (x : Refusal) → 0 ≡ refusalAnswer x .number → ⊥
+pub refusal-number : (x : Refusal) → 0 ≡ refusalAnswer x .number → ⊥
 unfolding refusalAnswer
 refusal-number BadRegion e = omega arith
 refusal-number Malformed e = omega arith

@@ -105,15 +105,15 @@ module _ (bytes r : List ℕ) (v : Verdict) where
     unfolding refusalAnswer
     record-malformed h a = record-refused MalformedRecord (ap readingOutcome h) a
 
+    sized-reply : (k : ℕ) → replyTo (start k) r ≡ step (start k) (empty Disable)
+    unfolding replyTo
+    sized-reply k = rw (eq-eqb (length r) regionSize e)
+
     -- a record that is read starts with its log setting
     pub record-starts : (s : Summary) (r′ : List ℕ) → o ≡ Read s → Replied v r r′ (replyTo (start (s .log)) r)
         → Replied v r r′ (replyToRecord bytes r)
     record-starts s r′ h d = subst (λ (reply : Reply). Replied v r r′ reply) (sym (starts-from ∙ go (read 2 bytes) (sym is ∙ ap readingOutcome h))) d
       where
-        sized-reply : (k : ℕ) → replyTo (start k) r ≡ step (start k) (empty Disable)
-        unfolding replyTo
-        sized-reply k = rw (eq-eqb (length r) regionSize e)
-
         go : (w : Outcome Settings) → told w ≡ pass s → startFrom w (some (empty Disable)) ≡ replyTo (start (s .log)) r
         go (refuse y) f = absurd (refuse-pass f)
         go (pass t) f = ap (λ (x : Summary). step (start (x .log)) (empty Disable)) (pass-is f) ∙ sym (sized-reply (s .log))

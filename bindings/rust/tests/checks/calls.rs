@@ -1,4 +1,4 @@
-//! Each of the fifteen calls, done and refused, through its typed form.
+//! Each of the fifteen calls of docs/SPEC.md, done and refused, through its typed form.
 
 use crate::site::*;
 use crate::tally::*;

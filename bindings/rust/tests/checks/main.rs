@@ -1,13 +1,16 @@
 //! The checks of the crate, over the archive. Each comparison is counted; the last line is 'N passed, M failed'.
-//!   checks [TURNS [SEED]]   TURNS random turns are made both ways (20000 if not said)
+//!   checks [TURNS [SEED]]   TURNS random turns are made both ways (20000 if not said), and a quarter of it random settings
 
 mod calls;
+mod damaged;
 mod dice;
 mod edits;
 mod life;
 mod marked;
 mod plain;
+mod record;
 mod same;
+mod settings;
 mod site;
 mod step;
 mod tally;
@@ -20,8 +23,14 @@ fn run(part: &str, all: impl FnOnce() + std::panic::UnwindSafe) {
 
 fn main() {
     let numbers: Vec<u64> = std::env::args().skip(1).filter_map(|word| word.parse().ok()).collect();
-    let parts: [(&str, fn()); 5] =
-        [("calls", calls::all), ("edits", edits::all), ("life", life::all), ("words", words::all), ("marked", marked::all)];
+    let parts: [(&str, fn()); 6] = [
+        ("calls", calls::all),
+        ("edits", edits::all),
+        ("life", life::all),
+        ("words", words::all),
+        ("marked", marked::all),
+        ("settings", settings::all),
+    ];
     let mut before = 0;
     let mut say = |part: &str| {
         let (passed, failed) = tally::counts();
@@ -35,6 +44,8 @@ fn main() {
     let (turns, seed) = (numbers.first().copied().unwrap_or(20_000), numbers.get(1).copied().unwrap_or(1));
     run("same", move || same::all(turns, seed));
     say("same");
+    run("damaged", move || damaged::all(turns / 4, seed));
+    say("damaged");
     let (passed, failed) = tally::counts();
     println!("{passed} passed, {failed} failed");
     std::process::exit(i32::from(failed > 0));

@@ -11,7 +11,7 @@ pub fn place(record: &Record, i: usize) -> u64 {
 }
 
 /// Declares an entry, and a function that lends it what it was lent: a region, bytes and a record, three references that lie
-/// apart.
+/// apart. Those of a settings record take an answer record of any size.
 macro_rules! entry {
     ($entry:ident, $name:ident, mut $(, [$bytes:ident])? $(, $number:ident)*) => {
         pub fn $name(region: &mut Region, $($bytes: &[u8],)? $($number: u64,)* record: &mut Record) -> u32 {
@@ -32,6 +32,15 @@ macro_rules! entry {
             unsafe { $entry(region.as_ptr(), region.len(), $($number,)* record.as_mut_ptr(), record.len()) }
         }
     };
+    ($entry:ident, $name:ident, settings $(, $number:ident)*) => {
+        pub fn $name(settings: &[u8], $($number: u64,)* answer: &mut [u8]) -> u32 {
+            extern "C" {
+                fn $entry(r: *const u8, l: usize, $($number: u64,)* a: *mut u8, k: usize) -> u32;
+            }
+            // SAFETY: each pointer is good for the length beside it.
+            unsafe { $entry(settings.as_ptr(), settings.len(), $($number,)* answer.as_mut_ptr(), answer.len()) }
+        }
+    };
 }
 
 entry!(dehlbazin_start, start, mut, setting);
@@ -49,3 +58,55 @@ entry!(dehlbazin_rollback, rollback, mut);
 entry!(dehlbazin_read_name, read_name, read, name);
 entry!(dehlbazin_read_line, read_line, read, name, place);
 entry!(dehlbazin_read_row, read_row, read, place);
+entry!(dehlbazin_read_settings, read_settings, settings, known);
+entry!(dehlbazin_read_committer, read_committer, settings, known, place);
+
+/// With a region of any size.
+pub fn start_with_settings(region: &mut [u8], settings: &[u8], answer: &mut [u8]) -> u32 {
+    extern "C" {
+        fn dehlbazin_start_with_settings(r: *mut u8, l: usize, s: *const u8, n: usize, a: *mut u8, k: usize) -> u32;
+    }
+    let (at, size) = (settings.as_ptr(), settings.len());
+    let (answer_at, answer_size) = (answer.as_mut_ptr(), answer.len());
+    // SAFETY: each pointer is good for the length beside it.
+    unsafe { dehlbazin_start_with_settings(region.as_mut_ptr(), region.len(), at, size, answer_at, answer_size) }
+}
+
+/// The head is version, log setting, mode and site.
+pub fn write_settings(
+    buffer: &mut [u8],
+    head: [u64; 4],
+    numbers: &[u64],
+    lengths: &[u64],
+    names: &[u8],
+    answer: &mut [u8],
+) -> u32 {
+    extern "C" {
+        #[rustfmt::skip]
+        fn dehlbazin_write_settings(
+            b: *mut u8,
+            l: usize,
+            version: u64,
+            log: u64,
+            mode: u64,
+            site: u64,
+            numbers: *const u64,
+            n: usize,
+            lengths: *const u64,
+            m: usize,
+            names: *const u8,
+            o: usize,
+            a: *mut u8,
+            k: usize,
+        ) -> u32;
+    }
+    let [version, log, mode, site] = head;
+    let (at, size) = (buffer.as_mut_ptr(), buffer.len());
+    let ((n, n_len), (m, m_len), (o, o_len)) =
+        ((numbers.as_ptr(), numbers.len()), (lengths.as_ptr(), lengths.len()), (names.as_ptr(), names.len()));
+    let (answer_at, answer_size) = (answer.as_mut_ptr(), answer.len());
+    // SAFETY: each pointer is good for the length beside it, and the numbers' are aligned.
+    unsafe {
+        dehlbazin_write_settings(at, size, version, log, mode, site, n, n_len, m, m_len, o, o_len, answer_at, answer_size)
+    }
+}

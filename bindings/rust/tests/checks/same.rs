@@ -1,13 +1,14 @@
 //! Random calls, each made through the crate and by the plain entry, on two regions that stay the same byte for byte.
 
 use crate::dice::Dice;
+use crate::record::{written, Plan};
 use crate::step::*;
 use crate::tally::check;
 use dehlbazin::*;
 use std::collections::BTreeMap;
 
-const KINDS: usize = 15;
-const NUMBERS: [u32; 18] = [0, 1, 3, 4, 6, 7, 8, 9, 10, 11, 12, 13, 15, 16, 17, 18, 20, 22];
+const KINDS: usize = 16;
+const NUMBERS: [u32; 20] = [0, 1, 3, 4, 6, 7, 8, 9, 10, 11, 12, 13, 15, 16, 17, 18, 20, 22, 23, 24];
 
 /// Two regions, and what was made on both.
 struct Pair {
@@ -21,7 +22,7 @@ struct Pair {
     leaves: u64,
 }
 
-/// Which of the fifteen.
+/// Which of the calls on a region.
 fn kind(step: &Step) -> usize {
     match step {
         Step::Start(_) => 0,
@@ -39,6 +40,7 @@ fn kind(step: &Step) -> usize {
         Step::ReadName(_) => 12,
         Step::ReadLine(..) => 13,
         Step::ReadRow(_) => 14,
+        Step::StartWith(_) => 15,
     }
 }
 
@@ -70,7 +72,7 @@ impl Pair {
         }
         self.done[kind(step)] += 1;
         match step {
-            Step::Start(_) => self.names = 0,
+            Step::Start(_) | Step::StartWith(_) => self.names = 0,
             Step::AddName(_) => self.names = self.names.max(plain.1[0] as u16 + 1),
             Step::ReadRow(_) => {
                 self.children += plain.1[10];
@@ -80,12 +82,13 @@ impl Pair {
         }
     }
 
-    /// On a store that is opened for it, which refuses a region that is spoilt: start alone takes it.
+    /// On a store that is opened for it, which refuses a region that is spoilt: the two starts alone take it.
     fn step(&mut self, step: &Step) {
         let mut region = std::mem::replace(&mut self.typed, Box::new([0; REGION_SIZE]));
         let typed = match (step, Store::open(&mut region)) {
             (_, Ok(mut store)) => make(step, &mut store),
             (Step::Start(setting), Err(_)) => reply(Store::start(&mut region, setting_of(*setting)), |_| vec![]),
+            (Step::StartWith(record), Err(_)) => reply(Store::start_with_settings(&mut region, record), |_| vec![]),
             (_, Err(refusal)) => reply(Err(refusal), |_: ()| vec![]),
         };
         self.compare(step, typed, &region);
@@ -265,6 +268,18 @@ fn some_load(dice: &mut Dice, names: u16) -> Step {
     }
 }
 
+/// A record of either version; or of another, or cut.
+fn some_record(dice: &mut Dice) -> Vec<u8> {
+    let plan = Plan::new(dice.below(3), 1 + dice.below(3), 0).with(1 + dice.below(65535), b"planner");
+    let mut record = written(1 + dice.below(2), &plan).unwrap();
+    match dice.below(6) {
+        0 => record[0] = 3,
+        1 => record.truncate(dice.below(record.len() as u64) as usize),
+        _ => (),
+    }
+    record
+}
+
 fn some_step_meanwhile(dice: &mut Dice, names: u16) -> Step {
     let name = some_name(dice, names);
     match dice.below(9) {
@@ -283,6 +298,7 @@ fn some_step_meanwhile(dice: &mut Dice, names: u16) -> Step {
 fn some_step(dice: &mut Dice, names: u16) -> Step {
     match dice.below(20) {
         0 if dice.once_in(20) => Step::Start(dice.below(3)),
+        1 if dice.once_in(10) => Step::StartWith(some_record(dice)),
         0..=2 => some_load(dice, names),
         3 | 4 => some_prepare(dice, names),
         5 | 6 => {

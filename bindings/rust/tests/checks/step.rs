@@ -23,6 +23,7 @@ pub struct Fields {
 #[derive(Clone, Debug)]
 pub enum Step {
     Start(u64),
+    StartWith(Vec<u8>),
     AddName(Vec<u8>),
     NameBytes(u16),
     LoadLoose(u16, Parts),
@@ -64,6 +65,7 @@ pub fn make_plainly(step: &Step, region: &mut Region) -> Reply {
     let to = &mut record;
     let number = match step {
         Step::Start(setting) => plain::start(region, *setting, to),
+        Step::StartWith(record) => plain::start_with_settings(region, record, to),
         Step::AddName(bytes) => plain::add_name(region, bytes, to),
         Step::NameBytes(name) => plain::name_bytes(region, u64::from(*name), to),
         Step::LoadLoose(name, (kind, number)) => plain::load_loose(region, u64::from(*name), *kind, *number, to),
@@ -144,6 +146,7 @@ fn loose_of(parts: Parts) -> Loose {
 pub fn make(step: &Step, store: &mut Store<'_>) -> Reply {
     match step {
         Step::Start(setting) => reply(store.restart(setting_of(*setting)), |_| vec![]),
+        Step::StartWith(record) => reply(store.restart_with_settings(record), |_| vec![]),
         Step::AddName(bytes) => reply(store.add_name(bytes), |name| vec![name.get()]),
         Step::LoadLoose(name, value) => reply(store.load_loose(NameNumber(*name), loose_of(*value)), |_| vec![]),
         Step::LoadPacked(name, object) => {

@@ -70,7 +70,10 @@ fn without_names() {
         (19, Refusal::NamesFull, "256 names are held"),
         (20, Refusal::WrongLock, "the lock to be placed is not free, or the lock to be lifted is not foreign"),
         (21, Refusal::BadLoad, "this value cannot be loaded there"),
-        (22, Refusal::NothingThere, "there is no such log line or row"),
+        (22, Refusal::NothingThere, "there is no such log line, row or committer"),
+        (23, Refusal::MalformedRecord, "the settings record is malformed, or a setting is out of bounds"),
+        (24, Refusal::UnknownVersion, "the settings record has a version that is not known"),
+        (33, Refusal::ShortBuffer, "the buffer is shorter than the settings record"),
         (99, Refusal::Unexpected { number: 99 }, "an answer of the archive that this crate does not know, with number 99"),
     ];
     for (number, refusal, words) in refusals {
@@ -120,6 +123,9 @@ fn every() -> Vec<Refusal> {
         Refusal::WrongLock,
         Refusal::BadLoad,
         Refusal::NothingThere,
+        Refusal::MalformedRecord,
+        Refusal::UnknownVersion,
+        Refusal::ShortBuffer,
     ]
 }
 
@@ -146,9 +152,11 @@ fn header() {
         same(value(&in_capitals(&format!("{outcome:?}"))), Some(outcome.number()));
     }
     same(value("DONE"), Some(Outcome::AllWritten { writes: 0 }.number()));
-    same(every().len(), 20);
+    same(every().len(), 23);
     same(value("REGION_SIZE"), Some(REGION_SIZE as u32));
     same(value("LIST_MOST_EDITS"), Some(EditList::MOST_EDITS as u32));
+    same(value("SETTINGS_MOST_COMMITTERS"), Some(Settings::MOST_COMMITTERS as u32));
+    same(value("SETTINGS_MOST_BYTES"), Some(Settings::MOST_BYTES as u32));
     let part = |name| value(name).unwrap_or(999);
     same(part("VERSION_MAJOR") * 1_000_000 + part("VERSION_MINOR") * 1000 + part("VERSION_PATCH"), VERSION);
     same(format!("{}.{}.{}", part("VERSION_MAJOR"), part("VERSION_MINOR"), part("VERSION_PATCH")), CRATE_VERSION.to_string());
