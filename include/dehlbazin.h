@@ -1,25 +1,30 @@
 /* Dehlbazin: the refs of a site's aisle layouts, in one region of bytes that the caller lends. For C and for C++.
  *
- * docs/SPEC.md says what the calls mean, docs/ABI.md how to use them, docs/LAYOUT.md what stands in the region.
+ * docs/SPEC.md says what the calls mean, docs/ABI.md how to use them, docs/LAYOUT.md what stands in the region, and
+ * docs/SETTINGS.md what stands in a settings record.
  *
- * Every call takes the region first, then its own arguments, then the answer record, each run of bytes as a pointer and a
- * length. These are all fifteen calls of docs/SPEC.md. Each returns a number: DEHLBAZIN_DONE, or the reason of a refusal. A refused call changes no byte of the region. Two
- * numbers are neither: with DEHLBAZIN_NO_COMMITTER and DEHLBAZIN_USED_UP dehlbazin_commit has stopped on its way, and what it
- * wrote until then stays.
+ * These are the fifteen calls of docs/SPEC.md, each of which takes the region first, then its own arguments, then the answer
+ * record; and at the end the four of docs/SETTINGS.md, of which one takes a region. Each run of bytes is a pointer and a length.
+ * Each call returns a number: DEHLBAZIN_DONE, or the reason of a refusal. A refused call changes no byte of the region, or of the
+ * buffer that it was to write into. Two numbers are neither: with DEHLBAZIN_NO_COMMITTER and DEHLBAZIN_USED_UP dehlbazin_commit
+ * has stopped on its way, and what it wrote until then stays.
  *
- * The record has DEHLBAZIN_ANSWER_SIZE bytes: 16 places of 8, big-endian, which dehlbazin_place reads. A call that is given
+ * The answer record has DEHLBAZIN_ANSWER_SIZE bytes: 16 places of 8, big-endian, which dehlbazin_place reads. A call that is given
  * a record of that size fills all of it, with 0 in each place that it does not use. A call that is given any other size
  * writes nothing at all and returns DEHLBAZIN_BAD_REGION.
  *
- * Every call tests its region whole before it does anything. It returns DEHLBAZIN_BAD_REGION, with a record of zeros, if
- * the length is not DEHLBAZIN_REGION_SIZE or the bytes are no good store. (dehlbazin_start looks at the length alone.)
+ * Every call that takes a region tests it whole before it does anything. It returns DEHLBAZIN_BAD_REGION, with an answer of zeros,
+ * if the length is not DEHLBAZIN_REGION_SIZE or the bytes are no good store. (dehlbazin_start and dehlbazin_start_with_settings
+ * look at the length alone.)
  *
  * Every number is passed with 64 bits. One that is too large is refused, never shortened: name 65536 + k is not name k.
  *
  * What no call can test, so that the caller must see to it:
- *   - that each pointer is good for its length. (With length 0 it may be null. It need not be aligned.)
- *   - that region, name or list, and record lie apart. The bytes that dehlbazin_name_bytes points out lie in the region, so
- *     a name got from it is copied before it is passed to dehlbazin_add_name.
+ *   - that each pointer is good for its length. (With length 0 it may be null. One to bytes need not be aligned. The two to
+ *     uint64_t, which dehlbazin_write_settings takes, are aligned as a uint64_t is.)
+ *   - that all that is lent to one call lies apart: region, name, list, settings record, buffer, numbers, lengths and answer. The
+ *     bytes that dehlbazin_name_bytes points out lie in the region, so a name got from it is copied before it is passed to
+ *     dehlbazin_add_name.
  *   - that calls on one region come one after the other. (Calls on different regions may come at the same time: no call
  *     has state of its own, or keeps a pointer when it returns.)
  */
@@ -30,10 +35,10 @@
 #include <stdint.h>
 
 /* ---- the version of this interface: of this header and of the archive's entries. Each part is below 1000, so that a later
- * version is a greater number: 0.4.0 is 4000, and 1.2.3 would be 1002003. #if can test it. */
+ * version is a greater number: 0.5.0 is 5000, and 1.2.3 would be 1002003. #if can test it. */
 
 #define DEHLBAZIN_VERSION_MAJOR 0
-#define DEHLBAZIN_VERSION_MINOR 4
+#define DEHLBAZIN_VERSION_MINOR 5
 #define DEHLBAZIN_VERSION_PATCH 0
 #define DEHLBAZIN_VERSION                                                                                                    \
     (DEHLBAZIN_VERSION_MAJOR * 1000000 + DEHLBAZIN_VERSION_MINOR * 1000 + DEHLBAZIN_VERSION_PATCH)
@@ -48,10 +53,11 @@
 #define DEHLBAZIN_ANSWER_SIZE 128
 
 /* ---- the numbers that calls return. 4 to 14 are given by prepare alone, and 5 by nothing: no list comes to more than 160
- * rows. 16 and 17 are given by commit alone, which has then stopped before a write: they are no refusals. */
+ * rows. 16 and 17 are given by commit alone, which has then stopped before a write: they are no refusals. 23, 24 and 33 are given
+ * by the four calls of the settings record alone. The numbers between are given by nothing. */
 
 #define DEHLBAZIN_DONE 0
-#define DEHLBAZIN_BAD_REGION 1                   /* the region is not a good one, or the record has the wrong size */
+#define DEHLBAZIN_BAD_REGION 1                   /* the region is not a good one, or the answer has the wrong size */
 #define DEHLBAZIN_MALFORMED 2                    /* an edit list, a mode, a setting or a committer is malformed */
 #define DEHLBAZIN_NOT_REGISTERED 3               /* no name has that number, which comes back whole */
 #define DEHLBAZIN_REFERENCE_CYCLE 4              /* links are still followed in a fifth round */
@@ -72,7 +78,10 @@
 #define DEHLBAZIN_NAMES_FULL 19                  /* a new name, and 256 are held */
 #define DEHLBAZIN_WRONG_LOCK 20                  /* placing a lock that is not free, or lifting one that is not foreign */
 #define DEHLBAZIN_BAD_LOAD 21                    /* a value that cannot be loaded there */
-#define DEHLBAZIN_NOTHING_THERE 22               /* there is no such log line or row */
+#define DEHLBAZIN_NOTHING_THERE 22               /* there is no such log line, row or committer */
+#define DEHLBAZIN_MALFORMED_RECORD 23            /* a settings record is malformed, or settings are that no record can hold */
+#define DEHLBAZIN_UNKNOWN_VERSION 24             /* a settings record has a version that is not known */
+#define DEHLBAZIN_SHORT_BUFFER 33                /* the settings record is longer than the buffer */
 
 /* ---- settings: which names get log lines (docs/SPEC.md, due lines) */
 
@@ -138,6 +147,16 @@
 #define DEHLBAZIN_EDIT_AT_NAME 23           /* 2 bytes */
 #define DEHLBAZIN_EDIT_AT_MESSAGE 25        /* 2 bytes; 0 with delete */
 
+/* ---- a settings record, which a site keeps between runs: its log setting, its usual mode, its committers and its site number.
+ * docs/SETTINGS.md has its bytes. */
+
+#define DEHLBAZIN_SETTINGS_VERSION_1 1 /* has no place for a site: it is written for site 0 alone, and reads as site 0 */
+#define DEHLBAZIN_SETTINGS_VERSION_2 2 /* has one. A reader that knows this version knows version 1 too */
+
+#define DEHLBAZIN_SETTINGS_MOST_COMMITTERS 16
+#define DEHLBAZIN_SETTINGS_MOST_NAME_BYTES 32 /* of a committer's name */
+#define DEHLBAZIN_SETTINGS_MOST_BYTES 579     /* of a record: a buffer of so many bytes is never too short */
+
 /* ---- places of the answer record, by the call that fills them when it is done */
 
 #define DEHLBAZIN_ADD_NAME_NUMBER 0
@@ -172,6 +191,17 @@
 #define DEHLBAZIN_READ_ROW_HAS_PARENT 10
 #define DEHLBAZIN_READ_ROW_PARENT 11
 #define DEHLBAZIN_READ_ROW_LEAF_PREVIOUS 12
+
+#define DEHLBAZIN_READ_SETTINGS_LOG 0
+#define DEHLBAZIN_READ_SETTINGS_MODE 1
+#define DEHLBAZIN_READ_SETTINGS_SITE 2
+#define DEHLBAZIN_READ_SETTINGS_COMMITTERS 3
+
+#define DEHLBAZIN_READ_COMMITTER_NUMBER 0
+#define DEHLBAZIN_READ_COMMITTER_OFFSET 1
+#define DEHLBAZIN_READ_COMMITTER_LENGTH 2
+
+#define DEHLBAZIN_WRITE_SETTINGS_LENGTH 0
 
 /* ---- places of the answer record, by the number of a refusal that fills them, whatever the call */
 
@@ -224,7 +254,7 @@ static inline uint64_t dehlbazin_place(const uint8_t *answer, size_t i)
 extern "C" {
 #endif
 
-/* Below, 'refused' leaves out what every call can return: 1, of the region and of the record. */
+/* Below, 'refused' leaves out what every call can return: 1, of the region and of the answer record. */
 
 /* Makes an empty store with a log setting. Whatever the region held is gone, a prepared transaction too.
  * setting: DEHLBAZIN_SETTING_..
@@ -339,6 +369,44 @@ uint32_t dehlbazin_read_line(const uint8_t *region, size_t region_len, uint64_t 
  * DEHLBAZIN_EXPECTED_..; 6 and 7 the expected target's kind and number; 8 and 9 the new target's; 10 whether it has a
  * parent, 0 or 1; 11 the place of the parent's row; 12 leaf-previous, 0 where there is none. */
 uint32_t dehlbazin_read_row(const uint8_t *region, size_t region_len, uint64_t place, uint8_t *answer, size_t answer_len);
+
+/* ---- the calls of the settings record. Their refusals come in the order in which they stand. */
+
+/* Makes an empty store with the log setting of a settings record, of either version. Whatever the region held is gone, a prepared
+ * transaction too. Of the other settings the store keeps nothing.
+ * refused: 24 the record is of another version; 23 it is empty or malformed.
+ * places: none. */
+uint32_t dehlbazin_start_with_settings(uint8_t *region, size_t region_len, const uint8_t *record, size_t record_len,
+                                       uint8_t *answer, size_t answer_len);
+
+/* Reads a settings record, but for its committers, which dehlbazin_read_committer reads.
+ * known: the latest version that the reader knows, DEHLBAZIN_SETTINGS_VERSION_..
+ * refused: 24 known is neither of the two, or the record is of a version that is not known; 23 it is empty or malformed.
+ * places: 0 the log setting, DEHLBAZIN_SETTING_..; 1 the usual mode, DEHLBAZIN_MODE_..; 2 the site, 0 in version 1; 3 how many
+ * committers, 0 to 16. */
+uint32_t dehlbazin_read_settings(const uint8_t *record, size_t record_len, uint64_t known, uint8_t *answer, size_t answer_len);
+
+/* Reads a committer of a settings record, and says where in the record the bytes of its name stand.
+ * known: as above.
+ * place: from 0. The committers stand by rising number.
+ * refused: 24 and 23 as above; 22 there is no committer there.
+ * places: 0 its number; 1 the offset of its name from the record's first byte; 2 how many bytes, 1 to 32. */
+uint32_t dehlbazin_read_committer(const uint8_t *record, size_t record_len, uint64_t known, uint64_t place, uint8_t *answer,
+                                  size_t answer_len);
+
+/* Writes a settings record at the beginning of a buffer. Bytes of the buffer past the record stay as they are.
+ * version: DEHLBAZIN_SETTINGS_VERSION_..
+ * log: DEHLBAZIN_SETTING_..; mode: DEHLBAZIN_MODE_..; site: 0 to 65535, and 0 in version 1.
+ * numbers: of the committers, each 1 to 65535, rising, 16 at most; lengths: of their names, each 1 to 32, as many as numbers;
+ * names: their bytes, one name after the other, which may be any. numbers_len and lengths_len count numbers and not bytes, and
+ * both pointers are aligned as a uint64_t is.
+ * refused: 24 the version is neither of the two; 23 a setting is out of bounds, the committers do not rise or are more than 16,
+ * there are not as many lengths as numbers, the names' bytes are not as many as the lengths say, or the version is 1 and the site
+ * is not 0; 33 the buffer is shorter than the record.
+ * places: 0 how many bytes the record has. */
+uint32_t dehlbazin_write_settings(uint8_t *buffer, size_t buffer_len, uint64_t version, uint64_t log, uint64_t mode, uint64_t site,
+                                  const uint64_t *numbers, size_t numbers_len, const uint64_t *lengths, size_t lengths_len,
+                                  const uint8_t *names, size_t names_len, uint8_t *answer, size_t answer_len);
 
 #ifdef __cplusplus
 }

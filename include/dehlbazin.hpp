@@ -1,7 +1,7 @@
 // Dehlbazin for C++17: the calls of dehlbazin.h with types. Header only; it needs the archive, dehlbazin.h and the standard
 // library.
 //
-// docs/SPEC.md says what the calls mean, docs/ABI.md shows a whole program.
+// docs/SPEC.md says what the calls mean, docs/SETTINGS.md what the settings of a site are, and docs/ABI.md shows whole programs.
 //
 // Each call gives a Result: its value, or the Refusal with its number and what comes with it. Nothing here throws but value(),
 // which throws Refused where there is no value. (Words are std::strings, whose memory can run out.) A commit that stopped on
@@ -11,11 +11,13 @@
 //
 // What the compiler or this header sees to, beyond what dehlbazin.h says:
 //   - the number of a name and the number of an object are two types, and neither is taken for the other;
-//   - region, name, list and record never overlap: the bytes of a name are copied before they are passed on, and lists and records
-//     are objects of their own;
+//   - what is lent to a call never overlaps: the bytes of a name, and of a settings record that a store is started with, are copied
+//     before they are passed on, and lists and answers are objects of their own;
 //   - the number of a name is tested before it is put into the 2 bytes that an edit has for it.
 // What the caller still must see to:
-//   - that the region lives as long as the Store or View over it, and the Store as long as it is used;
+//   - that the region lives as long as the Store or View over it, and the Store as long as it is used; and so with the bytes of a
+//     settings record and the SettingsView over them;
+//   - that the buffer that Settings are written into lies apart from them;
 //   - that one region has one Store at a time, and that calls on it come one after the other.
 #ifndef DEHLBAZIN_HPP
 #define DEHLBAZIN_HPP
@@ -72,6 +74,7 @@ using ObjectNumber = Number<struct OfObject>; // from 1; 0 is the null id, which
 using Committer = Number<struct OfCommitter>; // 1 to 65,535, or nobody
 using Message = Number<struct OfMessage>;     // 0 to 65,535
 using Allowance = Number<struct OfAllowance>; // how many writes a commit may make
+using SiteNumber = Number<struct OfSite>;     // 0 to 65,535
 
 inline constexpr Committer nobody{0};
 inline constexpr Allowance every_write{UINT64_MAX};
@@ -239,6 +242,9 @@ enum class Reason : uint32_t {
     wrong_lock = DEHLBAZIN_WRONG_LOCK,
     bad_load = DEHLBAZIN_BAD_LOAD,
     nothing_there = DEHLBAZIN_NOTHING_THERE,
+    malformed_record = DEHLBAZIN_MALFORMED_RECORD,
+    unknown_version = DEHLBAZIN_UNKNOWN_VERSION,
+    short_buffer = DEHLBAZIN_SHORT_BUFFER,
 };
 
 namespace detail {
@@ -292,12 +298,21 @@ inline constexpr Word words[] = {
     {"names_full", "256 names are held"},
     {"wrong_lock", "the lock to be placed is not free, or the lock to be lifted is not foreign"},
     {"bad_load", "this value cannot be loaded there"},
-    {"nothing_there", "there is no such log line or row"},
+    {"nothing_there", "there is no such log line, row or committer"},
+    {"malformed_record", "the settings record is malformed, or a setting is out of bounds"},
+    {"unknown_version", "the settings record has a version that is not known"},
 };
 
+inline constexpr Word short_buffer = {"short_buffer", "the buffer is shorter than the settings record"};
 inline constexpr Word unknown = {"unknown", "a number that this header does not know"};
 
-inline const Word &word_of(uint32_t number) { return number < std::size(words) ? words[number] : unknown; }
+// The numbers between the last of these words and that of a short buffer are given by no call.
+inline const Word &word_of(uint32_t number)
+{
+    if (number == DEHLBAZIN_SHORT_BUFFER)
+        return short_buffer;
+    return number < std::size(words) ? words[number] : unknown;
+}
 
 } // namespace detail
 
@@ -639,8 +654,9 @@ namespace detail {
 struct ReadNames;
 struct ReadLines;
 struct ReadRows;
+struct ReadCommitters;
 
-// Makes a call: the region, the call's own arguments, and a record for the answer.
+// Makes a call: the region, or what else it takes first, the call's own arguments, and a record for the answer.
 template <typename Entry, typename Byte, typename... Arguments>
 Answer ask(Entry entry, Byte *region, size_t size, Arguments... arguments)
 {
@@ -663,6 +679,164 @@ inline Result<Done> given(const Answer &answer)
 }
 
 } // namespace detail
+
+// ---- the settings of a site
+
+// The version of a settings record, or the latest that a reader knows. One that knows the second knows the first too.
+enum class SettingsVersion : uint64_t {
+    first = DEHLBAZIN_SETTINGS_VERSION_1,  // has no place for a site: it is written for site 0 alone, and reads as site 0
+    second = DEHLBAZIN_SETTINGS_VERSION_2, // has one
+};
+
+// A buffer that no record is too long for.
+using SettingsBuffer = std::array<uint8_t, DEHLBAZIN_SETTINGS_MOST_BYTES>;
+
+// A committer of a site. The bytes of its name, which may be any, stand in the record or in the Settings that it was read of.
+struct SiteCommitter {
+    Committer number;
+    std::string_view name;
+};
+
+// A settings record that is read where it stands: in bytes that stay as they are as long as this is used. It copies none of them.
+class SettingsView {
+public:
+    // Refused with 24 where the record has a version that is not known, with 23 where it is malformed.
+    static Result<SettingsView> open(const uint8_t *record, size_t size, SettingsVersion known)
+    {
+        size = record ? size : 0; // null is no record, whatever size is said to be there
+        return detail::given(detail::ask(dehlbazin_read_settings, record, size, uint64_t(known)),
+                             [=](const detail::Answer &answer) { return SettingsView(record, size, known, answer); });
+    }
+
+    Setting log() const { return log_; }
+    Mode mode() const { return mode_; }
+    SiteNumber site() const { return site_; }
+    uint64_t committer_count() const { return committers_; }
+
+    // The committer at a place, from 0, by rising number. Refused with 22 where there is none.
+    Result<SiteCommitter> committer(uint64_t place) const
+    {
+        const detail::Answer given = detail::ask(dehlbazin_read_committer, record_, size_, uint64_t(known_), place);
+        return detail::given(given, [this](const detail::Answer &answer) {
+            const char *name = reinterpret_cast<const char *>(record_ + answer.place(DEHLBAZIN_READ_COMMITTER_OFFSET));
+            return SiteCommitter{Committer(answer.place(DEHLBAZIN_READ_COMMITTER_NUMBER)),
+                                 std::string_view(name, answer.place(DEHLBAZIN_READ_COMMITTER_LENGTH))};
+        });
+    }
+    // for (const SiteCommitter &committer : view.committers())
+    Walk<detail::ReadCommitters> committers() const;
+
+private:
+    SettingsView(const uint8_t *record, size_t size, SettingsVersion known, const detail::Answer &answer)
+        : record_(record), size_(size), known_(known), log_(Setting(answer.place(DEHLBAZIN_READ_SETTINGS_LOG))),
+          mode_(Mode(answer.place(DEHLBAZIN_READ_SETTINGS_MODE))), site_(answer.place(DEHLBAZIN_READ_SETTINGS_SITE)),
+          committers_(answer.place(DEHLBAZIN_READ_SETTINGS_COMMITTERS))
+    {
+    }
+
+    const uint8_t *record_;
+    size_t size_;
+    SettingsVersion known_;
+    Setting log_;
+    Mode mode_;
+    SiteNumber site_;
+    uint64_t committers_;
+};
+
+namespace detail {
+
+struct ReadCommitters {
+    using Item = SiteCommitter;
+    static constexpr Reason end = Reason::nothing_there;
+    SettingsView view;
+
+    Result<SiteCommitter> operator()(uint64_t place) const { return view.committer(place); }
+};
+
+} // namespace detail
+
+inline Walk<detail::ReadCommitters> SettingsView::committers() const { return Walk(detail::ReadCommitters{*this}); }
+
+// What a site keeps between runs. It is written as a record and read from one.
+class Settings {
+public:
+    Settings(Setting log, Mode mode, SiteNumber site = SiteNumber{0}) : log_(log), mode_(mode), site_(site) {}
+
+    // Reads a record, and copies it. Refused with 24 where it has a version that is not known, with 23 where it is malformed.
+    static Result<Settings> read(const uint8_t *record, size_t size, SettingsVersion known)
+    {
+        const Result<SettingsView> view = SettingsView::open(record, size, known);
+        if (!view)
+            return *view.refusal();
+        Settings settings(view.get()->log(), view.get()->mode(), view.get()->site());
+        auto committers = view.get()->committers();
+        for (const SiteCommitter &committer : committers)
+            if (const Result<Done> added = settings.add_committer(committer.number, committer.name); !added)
+                return *added.refusal();
+        if (committers.refusal())
+            return *committers.refusal();
+        return settings;
+    }
+
+    // Adds a committer with its name, which is copied. What this cannot hold is refused here, with the number that write would
+    // give, and the settings stay as they were: 23 for a 17th committer or a name of more than 32 bytes. All else is write's to
+    // refuse.
+    Result<Done> add_committer(Committer number, std::string_view name)
+    {
+        if (count_ == DEHLBAZIN_SETTINGS_MOST_COMMITTERS || name.size() > DEHLBAZIN_SETTINGS_MOST_NAME_BYTES)
+            return Refusal(Reason::malformed_record);
+        if (!name.empty())
+            std::memmove(names_.data() + used_, name.data(), name.size());
+        numbers_[count_] = number.number();
+        lengths_[count_] = name.size();
+        used_ += name.size();
+        count_++;
+        return Done();
+    }
+
+    Setting log() const { return log_; }
+    Mode mode() const { return mode_; }
+    SiteNumber site() const { return site_; }
+    size_t committer_count() const { return count_; }
+
+    // The committer at a place, from 0, in the order in which they were added. Refused with 22 where there is none.
+    Result<SiteCommitter> committer(uint64_t place) const
+    {
+        if (place >= count_)
+            return Refusal(Reason::nothing_there);
+        size_t at = 0;
+        for (uint64_t i = 0; i < place; i++)
+            at += size_t(lengths_[i]);
+        const char *name = reinterpret_cast<const char *>(names_.data() + at);
+        return SiteCommitter{Committer(numbers_[place]), std::string_view(name, size_t(lengths_[place]))};
+    }
+
+    // Writes the record at the beginning of a buffer, and gives its length. Bytes past it stay as they are; on a refusal all do.
+    // Refused with 24 for a wrong version; with 23 for settings that are out of bounds, for committers whose numbers do not rise,
+    // and for a site other than 0 in the first version; with 33 where the buffer is too short.
+    Result<size_t> write(SettingsBuffer &buffer, SettingsVersion version) const
+    {
+        return write(buffer.data(), buffer.size(), version);
+    }
+    Result<size_t> write(uint8_t *buffer, size_t size, SettingsVersion version) const
+    {
+        const uint8_t *names = names_.data();
+        const detail::Answer given =
+            detail::ask(dehlbazin_write_settings, buffer, buffer ? size : 0, uint64_t(version), uint64_t(log_), uint64_t(mode_),
+                        site_.number(), numbers_.data(), count_, lengths_.data(), count_, names, used_);
+        return detail::given(given, [](const detail::Answer &answer) {
+            return size_t(answer.place(DEHLBAZIN_WRITE_SETTINGS_LENGTH));
+        });
+    }
+
+private:
+    Setting log_;
+    Mode mode_;
+    SiteNumber site_;
+    size_t count_ = 0, used_ = 0; // how many committers, and how many bytes of names
+    std::array<uint64_t, DEHLBAZIN_SETTINGS_MOST_COMMITTERS> numbers_{}, lengths_{};
+    std::array<uint8_t, DEHLBAZIN_SETTINGS_MOST_COMMITTERS * DEHLBAZIN_SETTINGS_MOST_NAME_BYTES> names_{};
+};
 
 // ---- a store that is read
 
@@ -834,6 +1008,19 @@ public:
         return started ? Result<Store>(std::move(store)) : Result<Store>(*started.refusal());
     }
 
+    // Makes an empty store with the log setting of a settings record, of either version. Refused with 1 for a wrong size, with 24
+    // and 23 as reading the record is.
+    static Result<Store> start_with_settings(Region &region, const uint8_t *record, size_t record_size)
+    {
+        return start_with_settings(region.data(), region.size(), record, record_size);
+    }
+    static Result<Store> start_with_settings(uint8_t *region, size_t size, const uint8_t *record, size_t record_size)
+    {
+        Store store(region, size);
+        const Result<Done> started = store.restart_with_settings(record, record_size);
+        return started ? Result<Store>(std::move(store)) : Result<Store>(*started.refusal());
+    }
+
     // Takes up the store that stands there. Refused with 1 where the size is wrong, or the bytes are no good store. A transaction
     // that was left prepared stays so: commit or rollback end it.
     static Result<Store> open(Region &region) { return open(region.data(), region.size()); }
@@ -860,6 +1047,21 @@ public:
     Result<Done> restart(Setting setting)
     {
         Result<Done> started = detail::given(change(dehlbazin_start, uint64_t(setting)));
+        if (started)
+            transaction_over();
+        return started;
+    }
+
+    // The same with the log setting of a settings record. The record may be anywhere, in the region too: it is copied. It has at
+    // most 579 bytes, so that of more no more than 580 are needed to be refused.
+    Result<Done> restart_with_settings(const uint8_t *record, size_t size)
+    {
+        std::array<uint8_t, DEHLBAZIN_SETTINGS_MOST_BYTES + 1> copy;
+        const size_t length = !record ? 0 : size < copy.size() ? size : copy.size();
+        if (length > 0)
+            std::memcpy(copy.data(), record, length);
+        Result<Done> started =
+            detail::given(change(dehlbazin_start_with_settings, static_cast<const uint8_t *>(copy.data()), length));
         if (started)
             transaction_over();
         return started;

@@ -1,5 +1,5 @@
-// The linker puts these in the place of the two calls that take bytes beside the region (--wrap). What is lent must lie apart,
-// which no call can test, and what came of it where it did not need not be seen.
+// The linker puts these in the place of the calls that take bytes beside the region or the buffer (--wrap). What is lent must lie
+// apart, which no call can test, and what came of it where it did not need not be seen.
 #include "check.h"
 #include "dehlbazin.h"
 
@@ -14,13 +14,15 @@ static bool apart(const uint8_t *x, size_t x_size, const uint8_t *y, size_t y_si
 static void all_apart(const uint8_t *region, size_t region_len, const uint8_t *bytes, size_t len, const uint8_t *answer,
                       size_t size)
 {
-    check(apart(region, region_len, bytes, len), "a name or list apart from the region");
+    check(apart(region, region_len, bytes, len), "a name, list or record apart from the region or buffer");
     check(apart(region, region_len, answer, size) && apart(bytes, len, answer, size), "a record apart from both");
 }
 
 extern "C" {
 decltype(dehlbazin_add_name) __real_dehlbazin_add_name, __wrap_dehlbazin_add_name;
 decltype(dehlbazin_prepare) __real_dehlbazin_prepare, __wrap_dehlbazin_prepare;
+decltype(dehlbazin_start_with_settings) __real_dehlbazin_start_with_settings, __wrap_dehlbazin_start_with_settings;
+decltype(dehlbazin_write_settings) __real_dehlbazin_write_settings, __wrap_dehlbazin_write_settings;
 
 uint32_t __wrap_dehlbazin_add_name(uint8_t *region, size_t region_len, const uint8_t *name, size_t len, uint8_t *answer,
                                    size_t size)
@@ -34,5 +36,24 @@ uint32_t __wrap_dehlbazin_prepare(uint8_t *region, size_t region_len, const uint
 {
     all_apart(region, region_len, list, len, answer, size);
     return __real_dehlbazin_prepare(region, region_len, list, len, mode, answer, size);
+}
+
+uint32_t __wrap_dehlbazin_start_with_settings(uint8_t *region, size_t region_len, const uint8_t *record, size_t len,
+                                              uint8_t *answer, size_t size)
+{
+    all_apart(region, region_len, record, len, answer, size);
+    return __real_dehlbazin_start_with_settings(region, region_len, record, len, answer, size);
+}
+
+uint32_t __wrap_dehlbazin_write_settings(uint8_t *buffer, size_t buffer_len, uint64_t version, uint64_t log, uint64_t mode,
+                                         uint64_t site, const uint64_t *numbers, size_t numbers_len, const uint64_t *lengths,
+                                         size_t lengths_len, const uint8_t *names, size_t names_len, uint8_t *answer, size_t size)
+{
+    const auto bytes = [](const uint64_t *list) { return reinterpret_cast<const uint8_t *>(list); };
+    all_apart(buffer, buffer_len, names, names_len, answer, size);
+    all_apart(buffer, buffer_len, bytes(numbers), 8 * numbers_len, answer, size);
+    all_apart(buffer, buffer_len, bytes(lengths), 8 * lengths_len, answer, size);
+    return __real_dehlbazin_write_settings(buffer, buffer_len, version, log, mode, site, numbers, numbers_len, lengths, lengths_len,
+                                           names, names_len, answer, size);
 }
 }

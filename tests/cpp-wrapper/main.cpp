@@ -40,6 +40,7 @@ int main(int count, char **words)
     part("walks", test_walks);
     part("words", test_words);
     part("marked", test_marked);
+    part("settings", test_settings);
     part("same", [=] { test_same(calls, seed); });
     return closing() ? 0 : 1;
 }

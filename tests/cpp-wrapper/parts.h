@@ -10,4 +10,5 @@ void test_transaction();
 void test_walks();
 void test_words();
 void test_marked();
+void test_settings();
 void test_same(size_t calls, uint64_t seed);

@@ -63,6 +63,8 @@ static uint32_t call(const Step &s, uint8_t *r, size_t n, uint8_t *answer, size_
         return dehlbazin_read_name(r, n, s.a, answer, size);
     case Op::read_line:
         return dehlbazin_read_line(r, n, s.a, s.b, answer, size);
+    case Op::start_with_settings:
+        return dehlbazin_start_with_settings(r, n, lent, bytes.size(), answer, size);
     default:
         return dehlbazin_read_row(r, n, s.a, answer, size);
     }

@@ -23,8 +23,9 @@ enum class Op {
     read_name,
     read_line,
     read_row,
+    start_with_settings,
 };
-constexpr size_t OPS = size_t(Op::read_row) + 1;
+constexpr size_t OPS = size_t(Op::start_with_settings) + 1;
 
 // An edit in numbers. An update has a target, object or link; a delete has neither force nor a message.
 struct Fields {
@@ -38,7 +39,7 @@ struct Fields {
 struct Step {
     Op op;
     uint64_t a = 0, b = 0, c = 0; // the numbers, in the call's order
-    std::string bytes{};          // a name's
+    std::string bytes{};          // a name's, or a settings record's
     std::vector<Fields> edits{};
     unsigned way = 0; // of a commit or a rollback: through the transaction, or the store, or by letting it go
 };

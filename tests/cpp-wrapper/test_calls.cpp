@@ -1,4 +1,4 @@
-// Each of the fifteen calls, done and refused, through its typed form.
+// Each of the fifteen calls on a store, done and refused, through its typed form.
 #include "parts.h"
 #include "site.h"
 

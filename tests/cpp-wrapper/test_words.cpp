@@ -57,6 +57,10 @@ static void test_refusals()
 static void test_others()
 {
     Marked site;
+    says(to_string(Refusal(Reason::malformed_record)), "the settings record is malformed, or a setting is out of bounds");
+    says(to_string(Refusal(Reason::unknown_version)), "the settings record has a version that is not known");
+    says(to_string(Refusal(Reason::short_buffer)), "the buffer is shorter than the settings record");
+    says(to_string(Refusal(Reason::nothing_there)), "there is no such log line, row or committer");
     says(to_string(object(9)), "object 9");
     says(to_string(link(aisle)), "a link to name 1");
     says(to_string(link(aisle), site.store), "a link to refs/heads/aisle");
@@ -86,8 +90,9 @@ static void test_names_of_numbers()
         check(std::strlen(detail::word_of(number).says) > 0, name + " has words");
         numbers.insert(number);
     }
-    check(numbers.size() == 23 && *numbers.rbegin() == 22, "all numbers from 0 to 22");
-    says(Refusal(Reason(23)).reason_name(), "unknown"); // of a later archive
+    check(numbers.size() == 26 && numbers.count(24) == 1 && *numbers.rbegin() == 33, "all numbers from 0 to 24, and 33");
+    for (uint32_t number : {25, 32, 34})
+        says(Refusal(Reason(number)).reason_name(), "unknown"); // of a later archive
     says(Refusal(Reason::too_many_rows).reason_name(), "too_many_rows");
     says(to_string(Refusal(Reason::too_many_rows)), "the edits come to more than 160 rows");
 }

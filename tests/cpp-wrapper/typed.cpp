@@ -188,6 +188,8 @@ Reply Typed::make(const Step &step)
     switch (step.op) {
     case Op::start:
         return reply_of(store_.restart(Setting(step.a)));
+    case Op::start_with_settings:
+        return reply_of(store_.restart_with_settings(reinterpret_cast<const uint8_t *>(step.bytes.data()), step.bytes.size()));
     case Op::add_name:
         return reply_of(store_.add_name(step.bytes), [](NameNumber name) { return Places{name.number()}; });
     case Op::load_loose:

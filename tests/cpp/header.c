@@ -1,5 +1,5 @@
-/* The header in C: a call, its number and a place of its answer; an edit list, built by the header's constants; and a list that is
- * prepared and committed. */
+/* The header in C: a call, its number and a place of its answer; an edit list, built by the header's constants; a list that is
+ * prepared and committed; and settings, written and read. */
 #include "dehlbazin.h"
 
 #include <string.h>
@@ -61,4 +61,32 @@ uint32_t move_from_c(uint8_t *region, size_t region_len, const uint8_t *list, si
     number = dehlbazin_commit(region, region_len, 0x0102, UINT64_MAX, answer, sizeof answer);
     *writes = dehlbazin_place(answer, DEHLBAZIN_COMMIT_WRITES);
     return number;
+}
+
+/* Writes the settings of a site, and gives the length of the record. */
+size_t settings_from_c(uint8_t *buffer, size_t buffer_len, uint32_t *number)
+{
+    static const uint64_t numbers[] = {12, 40}, lengths[] = {7, 11};
+    static const uint8_t names[] = {'p', 'l', 'a', 'n', 'n', 'e', 'r', 'n', 'i', 'g', 'h', 't', ' ', 's', 'h', 'i', 'f', 't'};
+    uint8_t answer[DEHLBAZIN_ANSWER_SIZE];
+    *number = dehlbazin_write_settings(buffer, buffer_len, DEHLBAZIN_SETTINGS_VERSION_2, DEHLBAZIN_SETTING_NORMAL,
+                                       DEHLBAZIN_MODE_DELETIONS, 7, numbers, sizeof numbers / sizeof *numbers, lengths,
+                                       sizeof lengths / sizeof *lengths, names, sizeof names, answer, sizeof answer);
+    return (size_t)dehlbazin_place(answer, DEHLBAZIN_WRITE_SETTINGS_LENGTH);
+}
+
+/* Starts a store with a record whose second committer is 'night shift', and gives its site; 0 where it is another's. */
+uint64_t site_from_c(uint8_t *region, size_t region_len, const uint8_t *record, size_t record_len, uint32_t *number)
+{
+    static const char name[] = "night shift";
+    uint8_t answer[DEHLBAZIN_ANSWER_SIZE];
+    *number = dehlbazin_start_with_settings(region, region_len, record, record_len, answer, sizeof answer);
+    if (*number != DEHLBAZIN_DONE)
+        return 0;
+    *number = dehlbazin_read_committer(record, record_len, DEHLBAZIN_SETTINGS_VERSION_2, 1, answer, sizeof answer);
+    if (*number != DEHLBAZIN_DONE || dehlbazin_place(answer, DEHLBAZIN_READ_COMMITTER_LENGTH) != sizeof name - 1 ||
+        memcmp(record + dehlbazin_place(answer, DEHLBAZIN_READ_COMMITTER_OFFSET), name, sizeof name - 1) != 0)
+        return 0;
+    *number = dehlbazin_read_settings(record, record_len, DEHLBAZIN_SETTINGS_VERSION_2, answer, sizeof answer);
+    return dehlbazin_place(answer, DEHLBAZIN_READ_SETTINGS_SITE);
 }

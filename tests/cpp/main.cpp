@@ -49,6 +49,9 @@ int main(int count, char **words)
     part("commit_stops", test_commit_stops);
     part("commit_everywhere", test_commit_everywhere);
     part("marked", test_marked);
+    part("settings", test_settings);
+    part("settings_changed", test_settings_changed);
+    part("settings_random", test_settings_random);
     part("random", test_random);
     part("sequences", [=] { test_sequences(sequences, seed); });
     part("flips", [=] { test_flips(every); });

@@ -1,21 +1,26 @@
-// The header: its constants are those of docs/SPEC.md, docs/LAYOUT.md and docs/ABI.md, its reader of places is right, and it serves
-// C.
+// The header: its constants are those of docs/SPEC.md, docs/LAYOUT.md, docs/SETTINGS.md and docs/ABI.md, its reader of places is
+// right, and it serves C.
 #include "calls.h"
 #include "check.h"
 #include "dehlbazin.h"
 #include "image.h"
 #include "lent.h"
 #include "samples.h"
+#include "settings_samples.h"
 #include "tests.h"
+
+#include <algorithm>
 
 extern "C" uint64_t first_name_from_c(uint8_t *region, size_t region_len, uint32_t *number);
 extern "C" size_t list_from_c(uint8_t *list);
 extern "C" uint32_t move_from_c(uint8_t *region, size_t region_len, const uint8_t *list, size_t list_len, uint64_t *writes);
+extern "C" size_t settings_from_c(uint8_t *buffer, size_t buffer_len, uint32_t *number);
+extern "C" uint64_t site_from_c(uint8_t *region, size_t region_len, const uint8_t *record, size_t record_len, uint32_t *number);
 
-#if DEHLBAZIN_VERSION != 4000
-#error "the version is not 0.4.0, or #if cannot read it"
+#if DEHLBAZIN_VERSION != 5000
+#error "the version is not 0.5.0, or #if cannot read it"
 #endif
-static_assert(DEHLBAZIN_VERSION_MAJOR == 0 && DEHLBAZIN_VERSION_MINOR == 4 && DEHLBAZIN_VERSION_PATCH == 0);
+static_assert(DEHLBAZIN_VERSION_MAJOR == 0 && DEHLBAZIN_VERSION_MINOR == 5 && DEHLBAZIN_VERSION_PATCH == 0);
 static_assert(DEHLBAZIN_LAYOUT_VERSION == 1);
 static_assert(DEHLBAZIN_REGION_SIZE == REGION && DEHLBAZIN_ANSWER_SIZE == 16 * 8);
 
@@ -26,7 +31,8 @@ static_assert(DEHLBAZIN_DELETE_REFERENCE_MUST_EXIST == 9 && DEHLBAZIN_MUST_NOT_E
 static_assert(DEHLBAZIN_REFERENCE_OUT_OF_DATE == 12 && DEHLBAZIN_DELETE_MUST_NOT_EXIST == 13 && DEHLBAZIN_LOG_FULL == 14);
 static_assert(DEHLBAZIN_WRONG_STATE == 15 && DEHLBAZIN_NO_COMMITTER == 16 && DEHLBAZIN_USED_UP == 17);
 static_assert(DEHLBAZIN_BAD_NAME == 18 && DEHLBAZIN_NAMES_FULL == 19 && DEHLBAZIN_WRONG_LOCK == 20);
-static_assert(DEHLBAZIN_BAD_LOAD == 21 && DEHLBAZIN_NOTHING_THERE == 22);
+static_assert(DEHLBAZIN_BAD_LOAD == 21 && DEHLBAZIN_NOTHING_THERE == 22 && DEHLBAZIN_MALFORMED_RECORD == 23);
+static_assert(DEHLBAZIN_UNKNOWN_VERSION == 24 && DEHLBAZIN_SHORT_BUFFER == 33);
 
 static_assert(DEHLBAZIN_SETTING_NEVER == 0 && DEHLBAZIN_SETTING_NORMAL == 1 && DEHLBAZIN_SETTING_ALWAYS == 2);
 static_assert(DEHLBAZIN_KIND_NONE == NONE && DEHLBAZIN_KIND_OBJECT == OBJECT);
@@ -48,6 +54,11 @@ static_assert(DEHLBAZIN_EDIT_AT_EXPECTED == AT_EXPECTED && DEHLBAZIN_EDIT_AT_EXP
 static_assert(DEHLBAZIN_EDIT_AT_EXPECTED_NUMBER == AT_EXPECTED_TARGET + 1 && DEHLBAZIN_EDIT_AT_NEW_KIND == AT_NEW_TARGET);
 static_assert(DEHLBAZIN_EDIT_AT_NEW_NUMBER == AT_NEW_TARGET + 1 && DEHLBAZIN_EDIT_AT_NAME == AT_NAME);
 static_assert(DEHLBAZIN_EDIT_AT_MESSAGE == AT_MESSAGE && AT_MESSAGE + 2 == RECORD);
+
+static_assert(DEHLBAZIN_SETTINGS_VERSION_1 == settings::VERSION_1 && DEHLBAZIN_SETTINGS_VERSION_2 == settings::VERSION_2);
+static_assert(DEHLBAZIN_SETTINGS_MOST_COMMITTERS == settings::MOST_COMMITTERS);
+static_assert(DEHLBAZIN_SETTINGS_MOST_NAME_BYTES == settings::MOST_NAME);
+static_assert(DEHLBAZIN_SETTINGS_MOST_BYTES == settings::MOST_BYTES && settings::MOST_BYTES == 19 + 16 * (3 + 32));
 
 // The record ends where nothing may be read, and no place but the first sixteen is read: not even where eight times the place is
 // a small number again.
@@ -217,8 +228,48 @@ static void test_list_from_c()
     check(std::string(list.data(), list.data() + size) == stated, "a list that C builds");
 }
 
+// The places of the settings record's calls.
+static void test_settings_places()
+{
+    using namespace settings;
+    const Bytes record = bytes_of(VERSION_2, Settings{2, 3, 0x0102, {{258, bytes("north")}}});
+    Bytes answer(DEHLBAZIN_ANSWER_SIZE), buffer(DEHLBAZIN_SETTINGS_MOST_BYTES);
+    uint32_t number = dehlbazin_read_settings(record.data(), record.size(), DEHLBAZIN_SETTINGS_VERSION_2, answer.data(),
+                                              answer.size());
+    check(place_of(number, answer, DEHLBAZIN_READ_SETTINGS_LOG) == DEHLBAZIN_SETTING_ALWAYS, "the log setting");
+    check(place_of(number, answer, DEHLBAZIN_READ_SETTINGS_MODE) == DEHLBAZIN_MODE_UPDATES_REMOVE_LOOSE, "the usual mode");
+    check(place_of(number, answer, DEHLBAZIN_READ_SETTINGS_SITE) == 0x0102, "the site");
+    check(place_of(number, answer, DEHLBAZIN_READ_SETTINGS_COMMITTERS) == 1, "how many committers");
+
+    number = dehlbazin_read_committer(record.data(), record.size(), DEHLBAZIN_SETTINGS_VERSION_2, 0, answer.data(), answer.size());
+    check(place_of(number, answer, DEHLBAZIN_READ_COMMITTER_NUMBER) == 258, "a committer's number");
+    check(place_of(number, answer, DEHLBAZIN_READ_COMMITTER_OFFSET) == 17, "the offset of its name");
+    check(place_of(number, answer, DEHLBAZIN_READ_COMMITTER_LENGTH) == 5, "the length of its name");
+
+    number = dehlbazin_write_settings(buffer.data(), buffer.size(), DEHLBAZIN_SETTINGS_VERSION_1, DEHLBAZIN_SETTING_NEVER,
+                                      DEHLBAZIN_MODE_UPDATES, 0, nullptr, 0, nullptr, 0, nullptr, 0, answer.data(), answer.size());
+    check(place_of(number, answer, DEHLBAZIN_WRITE_SETTINGS_LENGTH) == 14, "the length of a record");
+}
+
+// The example of docs/SETTINGS.md, written from C; and a store that C starts with it.
+static void test_settings_from_c()
+{
+    Lent buffer(DEHLBAZIN_SETTINGS_MOST_BYTES);
+    uint32_t number = 99;
+    const size_t size = settings_from_c(buffer.data(), buffer.size(), &number);
+    check(number == DEHLBAZIN_DONE, "settings from C");
+    check(Bytes(buffer.data(), buffer.data() + std::min(size, buffer.size())) == settings::example(2), "a record that C writes");
+    check(settings_from_c(buffer.data(), 42, &number) == 0 && number == DEHLBAZIN_SHORT_BUFFER, "a short buffer from C");
+
+    Lent region(DEHLBAZIN_REGION_SIZE, 0xEE), record(settings::example(2));
+    check(site_from_c(region.data(), region.size(), record.data(), record.size(), &number) == 7, "a site that C reads");
+    check(number == DEHLBAZIN_DONE && region.holds(encode(Store{1, {}, FREE, {}, 0, {}})), "a store that C starts");
+}
+
 void test_header()
 {
+    test_settings_places();
+    test_settings_from_c();
     test_place();
     test_layout_version();
     test_places();

@@ -1,5 +1,6 @@
-// Many short sequences of random calls, all fifteen of them, each on a region of its own. After each call all is compared.
+// Many short sequences of random calls, all that take a region, each on a region of its own. After each call all is compared.
 #include "random_calls.h"
+#include "random_settings.h"
 #include "share.h"
 #include "tally.h"
 #include "tests.h"
@@ -15,7 +16,7 @@ static const size_t ENOUGH = 10000;
 // What came in all sequences: how often each call was done, and which numbers were given, those of prepare and of commit apart.
 struct Met {
     std::atomic<size_t> done[OPS] = {};
-    Tally calls, preparations, commits;
+    Tally calls, preparations, commits, starts;
 
     void add(Op op, uint32_t number)
     {
@@ -30,6 +31,7 @@ struct Met {
         calls.all_met("sequences, but for prepare and commit,", {0, 2, 3, 15, 18, 19, 20, 21, 22});
         preparations.all_met("prepare in sequences", {0, 2, 3, 4, 6, 7, 8, 9, 10, 11, 12, 13, 14, 15});
         commits.all_met("commit in sequences", {0, 2, 15, 16, 17});
+        starts.all_met("start with settings in sequences", {0, 23, 24});
         for (size_t op = 0; op < OPS; op++)
             check(done[op] > 100, describe({Op(op), {}}) + " is hardly ever done");
     }
@@ -43,15 +45,18 @@ static Store beginning(Dice &dice)
     return ready_store(dice, names, lines);
 }
 
-// Some begin with start, whatever the region holds.
+// Some begin with a start, whatever the region holds, and some have a start with a settings record among their calls.
 static void play(Dice &dice, Met &met)
 {
     World world(beginning(dice));
     auto make = [&](const Call &call) { met.add(call.op, world.agrees(call).number); };
     if (dice.once_in(4))
         make(call::start(dice.below(3)));
-    for (int step = 0; step < STEPS; step++)
+    for (int step = 0; step < STEPS; step++) {
+        if (dice.once_in(200))
+            met.starts.add(world.starts(dice.once_in(4) ? damaged_record(dice) : good_record(dice)).number);
         make(next_call(dice, world.store()));
+    }
 }
 
 // The sequence of a number is always the same, for one seed.

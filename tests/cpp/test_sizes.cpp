@@ -2,6 +2,7 @@
 #include "dehlbazin.h"
 #include "entries.h"
 #include "samples.h"
+#include "settings_samples.h"
 #include "tests.h"
 #include "world.h"
 
@@ -44,12 +45,13 @@ static void is_refused(const Call &call, const char *kind, const Bytes &region, 
 }
 
 static const size_t ANSWER_SIZES[] = {0, 1, 127, 128, 129, 256 + 128, 65536 + 128};
+static const size_t REGION_SIZES[] = {0, 1, REGION - 1, REGION, REGION + 1, 2 * REGION, 65536 + REGION};
 
 static void test_lengths()
 {
     for (const Store &store : {busy(), prepared()})
         for (const Call &call : calls())
-            for (size_t region_len : {size_t(0), size_t(1), REGION - 1, REGION, REGION + 1, 2 * REGION, 65536 + REGION})
+            for (size_t region_len : REGION_SIZES)
                 for (size_t answer_len : ANSWER_SIZES) {
                     if (region_len == REGION && answer_len == ANSWER)
                         continue;
@@ -133,6 +135,65 @@ static void test_start()
             world.gives(call::start(setting), 2);
 }
 
+// Records to start with: good ones of both versions, malformed ones, and ones of a version that is not known.
+static std::vector<Bytes> records()
+{
+    Bytes malformed = settings::example(2), unknown = malformed;
+    malformed.pop_back();
+    unknown[0] = 3;
+    return {settings::example(1), settings::example(2), malformed, unknown, {}};
+}
+
+// Start with a record: the sizes come first, whatever the record is.
+static void test_start_with_settings()
+{
+    auto is_refused = [](const Bytes &settings, const Bytes &region, size_t answer_len) {
+        Lent lent(region), record(settings), answer(answer_len, OLD);
+        uint32_t number = dehlbazin_start_with_settings(lent.data(), lent.size(), record.data(), record.size(), answer.data(),
+                                                        answer.size());
+        std::string what = "start with a settings record of " + std::to_string(settings.size()) + " in a region of " +
+                           std::to_string(region.size()) + " with an answer of " + std::to_string(answer_len);
+        check(number == 1, what + ": number " + std::to_string(number));
+        check(lent.holds(region) && record.holds(settings), what + ": what is lent is changed");
+        check(answer.is_filled(answer_len == ANSWER ? 0 : OLD), what + ": the answer");
+        check(lent.is_alone() && record.is_alone() && answer.is_alone(), what + ": bytes before them are written");
+    };
+    for (const Bytes &settings : records())
+        for (size_t region_len : REGION_SIZES)
+            for (size_t answer_len : ANSWER_SIZES) {
+                Bytes region = encode(prepared());
+                region.resize(region_len);
+                if (region_len != REGION || answer_len != ANSWER)
+                    is_refused(settings, region, answer_len);
+            }
+}
+
+// It looks at nothing else of the region, so a bad one serves it, and is left as it is where the record is refused.
+static void test_settings_in_bad_regions()
+{
+    for (const Bytes &region : bad_regions())
+        for (const Bytes &settings : records()) {
+            Lent lent(region), record(settings), answer(ANSWER, OLD);
+            uint32_t number =
+                dehlbazin_start_with_settings(lent.data(), REGION, record.data(), record.size(), answer.data(), ANSWER);
+            Store empty;
+            const uint32_t wanted = settings::start_with_settings(empty, settings).number;
+            check(number == wanted, "start with settings on a bad region: number " + std::to_string(number));
+            check(lent.holds(wanted == 0 ? encode(empty) : region), "start with settings on a bad region: the region");
+            check(answer.is_filled(0), "start with settings on a bad region: the answer");
+        }
+    for (const Bytes &settings : records()) {
+        Lent region(encode(busy())), record(settings), answer(ANSWER, OLD);
+        const uint8_t *bytes = record.data();
+        check(dehlbazin_start_with_settings(nullptr, 0, bytes, record.size(), answer.data(), ANSWER) == 1, "with no region");
+        check(answer.is_filled(0), "with no region: the answer is not all 0");
+        check(dehlbazin_start_with_settings(region.data(), REGION, bytes, record.size(), nullptr, 0) == 1, "with no answer");
+        check(dehlbazin_start_with_settings(nullptr, 0, nullptr, 0, nullptr, 0) == 1, "with nothing");
+        check(dehlbazin_start_with_settings(region.data(), REGION, nullptr, 0, answer.data(), ANSWER) == 23, "with no settings");
+        check(region.holds(encode(busy())), "the region is changed");
+    }
+}
+
 // The same calls with the region, the list and the record at each of 16 alignments.
 static void test_alignment()
 {
@@ -159,6 +220,9 @@ static void test_alignment()
         check(dehlbazin_place(record, 0) == 1, what);
         answer_of(after, call::commit(258, 9));
         check(encode(after) == Bytes(region, region + REGION), what);
+        const Bytes site = settings::example(2);
+        check(dehlbazin_start_with_settings(region, REGION, site.data(), site.size(), record, ANSWER) == 0, what);
+        check(encode(Store{1, {}, FREE, {}, 0, {}}) == Bytes(region, region + REGION), what);
         check(std::all_of(room.data(), region, [](uint8_t b) { return b == 0x77; }), what);
         check(std::all_of(region + REGION, record, [](uint8_t b) { return b == 0x77; }), what);
         check(std::all_of(record + ANSWER, room.data() + room.size(), [](uint8_t b) { return b == 0x77; }), what);
@@ -188,6 +252,8 @@ void test_sizes()
     test_null();
     test_bad_regions();
     test_start();
+    test_start_with_settings();
+    test_settings_in_bad_regions();
     test_only_read();
     test_alignment();
 }

@@ -23,5 +23,8 @@ void test_commit_stops();
 void test_commit_everywhere();
 void test_marked();
 void test_random();
+void test_settings();
+void test_settings_changed();
+void test_settings_random();
 void test_sequences(size_t count, uint64_t seed);
 void test_flips(size_t every); // turns over one bit of each so many

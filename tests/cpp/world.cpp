@@ -2,6 +2,7 @@
 
 #include "dehlbazin.h"
 #include "entries.h"
+#include "settings.h"
 
 static const uint8_t OLD = 0xEE; // what stands in a record before a call
 
@@ -35,23 +36,45 @@ static bool check_bytes(const Lent &found, const Bytes &wanted, const std::strin
 
 World::World(const Store &store) : own(store), lent(encode(store)), record(ANSWER, OLD) {}
 
-Answer World::agrees(const Call &call, At at)
+void World::begin()
 {
     if (is_wrong)
         lent.set(encode(own));
-    Answer wanted = answer_of(own, call);
     record.fill(OLD);
-    given = run(call, lent.data(), lent.size(), record.data(), record.size());
+}
+
+void World::compare(const std::string &what, const Answer &wanted, At at)
+{
     if (given == wanted.number)
         passed();
     else
-        failed(at, describe(call) + ": number " + std::to_string(given) + " instead of " + std::to_string(wanted.number));
-    check_bytes(record, record_of(wanted), describe(call) + ": record", at);
-    is_wrong = !check_bytes(lent, encode(own), describe(call) + ": region", at);
+        failed(at, what + ": number " + std::to_string(given) + " instead of " + std::to_string(wanted.number));
+    check_bytes(record, record_of(wanted), what + ": record", at);
+    is_wrong = !check_bytes(lent, encode(own), what + ": region", at);
     if (lent.is_alone() && record.is_alone())
         passed();
     else
-        failed(at, describe(call) + ": bytes before the region or the record are written");
+        failed(at, what + ": bytes before the region or the record are written");
+}
+
+Answer World::agrees(const Call &call, At at)
+{
+    begin();
+    Answer wanted = answer_of(own, call);
+    given = run(call, lent.data(), lent.size(), record.data(), record.size());
+    compare(describe(call), wanted, at);
+    return wanted;
+}
+
+Answer World::starts(const Bytes &settings, At at)
+{
+    begin();
+    Answer wanted = settings::start_with_settings(own, settings);
+    Lent bytes(settings);
+    const uint8_t *first = settings.empty() ? nullptr : bytes.data();
+    given = dehlbazin_start_with_settings(lent.data(), lent.size(), first, bytes.size(), record.data(), record.size());
+    compare("start with settings", wanted, at);
+    check(bytes.holds(settings) && bytes.is_alone(), "start with settings: the settings", at);
     return wanted;
 }
 

@@ -19,6 +19,9 @@ public:
     // The call does what our own store does.
     Answer agrees(const Call &call, AT_CALLER);
 
+    // So does a start with a settings record, of any bytes.
+    Answer starts(const Bytes &settings, AT_CALLER);
+
     const Store &store() const { return own; }
 
     // What the archive itself gave to the last call and left of the region, right or wrong. The next call begins with the bytes
@@ -28,6 +31,9 @@ public:
     const Lent &region() const { return lent; }
 
 private:
+    void begin();
+    void compare(const std::string &what, const Answer &wanted, At at);
+
     Store own;
     Lent lent, record;
     uint32_t given = 0;

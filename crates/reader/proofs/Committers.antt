@@ -18,13 +18,14 @@ use Rattle.model.specs.EditList.{_>>=_}
 use Rattle.model.proofs.Binds.{none-some, some-is, some-then}
 use Rattle.settings.specs.declared.Heading.{Heading}
 use Rattle.settings.specs.Format.{Committer, Split, Named, within, follows, split, followed, committerIn, committersIn}
+use Rattle.settings.proofs.Splits.{to-end, split-at, split-past, split-some}
+use Rattle.settings.proofs.Committers.{one-further}
 use Rattle.reader.specs.declared.OptionLength.{OptionLength}
 use Rattle.reader.specs.declared.OptionLength.the-variants.{NoLength, Length}
 use Rattle.reader.specs.declared.OptionHeading.{OptionHeading}
 use Rattle.reader.specs.declared.OptionHeading.the-variants.{NoHeading}
 use Rattle.reader.specs.declared.OptionHeading.the-variants as optionHeading
 use Rattle.reader.specs.Reading.{lengthOption, headingOf, headingIn, headingOption, countIn}
-use Rattle.reader.proofs.Entries.{to-end, split-at, split-past, split-some}
 
 -- ---- one committer
 
@@ -217,10 +218,8 @@ count-full (suc k) last r h e = absurd (omega arith)
 pub counted : (k last : ℕ) (r : List ℕ) → (length r ≡ 0 → ⊥) → (k ≡ 0 → ⊥)
     → committersIn k last r
     ≡ (committerIn last r >>= λ first. committersIn (k - 1) (first .committer .number) (first .behind) >>= λ others. some (first .committer ∷ others))
-unfolding committersIn
 counted zero last r h z = absurd (z refl)
-counted (suc k) last [] h z = absurd (h refl)
-counted (suc k) last (b ∷ r) h z = let e : suc k - 1 ≡ k = omega arith in rw e
+counted (suc k) last r h z = let e : suc k - 1 ≡ k = omega arith in rw e (one-further k last r (omega arith))
 
 module _ (k last : ℕ) (r : List ℕ) (l : length r ≡ 0 → ⊥) (z : k ≡ 0 → ⊥) (o : OptionHeading)
     (e : headingOption o ≡ headingIn (committerIn last r)) where

@@ -15,31 +15,13 @@ use Rattle.word.proofs.Tests.{both-true}
 use Rattle.model.specs.EditList.{_>>=_}
 use Rattle.model.proofs.Binds.{none-some, some-is, some-then, cond-some}
 use Rattle.settings.specs.Format.{Split, Number, within, split, tagged, entryIn, numbered, numberIn}
+use Rattle.settings.proofs.Splits.{split-at, split-past, split-some}
+use Rattle.settings.proofs.Entries.{tagged-back}
 use Rattle.reader.specs.declared.OptionLength.{OptionLength}
 use Rattle.reader.specs.declared.OptionLength.the-variants.{NoLength, Length}
 use Rattle.reader.specs.declared.OptionNumber.{OptionNumber}
 use Rattle.reader.specs.declared.OptionNumber.the-variants as optionNumber
 use Rattle.reader.specs.Reading.{lengthOption, numberOption, sizeIn, valueIn}
-
--- ---- the first bytes of a list, and all that stand behind them
-
-pub to-end : (b : ℕ) (r : List ℕ) → cut b (length r - b) r ≡ drop b r
-to-end b r = let e : length (drop b r) ≡ length r - b = length-drop b r in take-all (length r - b) (drop b r) (omega arith)
-
-pub split-at : (k : ℕ) (r : List ℕ) → k ≤ length r → split k r ≡ some (record { front = take k r; behind = drop k r })
-unfolding split
-split-at k r h = rw (le-leb k (length r) h)
-
-pub split-past : (k : ℕ) (r : List ℕ) → length r < k → split k r ≡ none
-unfolding split
-split-past k r h = rw (lt-leb k (length r) h)
-
-pub split-some : (k : ℕ) (r : List ℕ) (p : Split) → split k r ≡ some p → (k ≤ length r) × (p .front ≡ take k r) × (p .behind ≡ drop k r)
-unfolding split
-split-some k r p e =
-    let h = cond-some (leb k (length r)) (some (record { front = take k r; behind = drop k r })) p e in
-    let q = some-is (h .1) in
-    (leb-true k (length r) (h .0), ap (λ (p : Split). p .front) (sym q), ap (λ (p : Split). p .behind) (sym q))
 
 -- one byte as a number
 pub byte : (b : ℕ) → val (b ∷ []) ≡ b
@@ -128,13 +110,6 @@ pub record Stands (r : List ℕ) (e : Split) : Type 0 where
   pub front : e .front ≡ cut 3 (length (e .front)) r
   pub behind : e .behind ≡ drop (3 + length (e .front)) r
 
-tagged-some : (tag : ℕ) (l b : List ℕ) (e : Split) → tagged tag l b ≡ some e
-    → (length l ≡ suc (length (e .front))) × (e .front ≡ drop 1 l) × (e .behind ≡ b)
-tagged-some tag [] b e h = absurd (none-some h)
-tagged-some tag (t ∷ l) b e h =
-    let q : record { front = l; behind = b } ≡ e = some-is (cond-some (eqb t tag) (some (record { front = l; behind = b })) e h .1) in
-    (ap (λ (e : Split). suc (length (e .front))) q, ap (λ (e : Split). e .front) (sym q), ap (λ (e : Split). e .behind) (sym q))
-
 -- the first element taken from the front of a list
 drop-first : (k : ℕ) (l : List ℕ) → drop 1 (take (suc k) l) ≡ take k (drop 1 l)
 drop-first k [] = sym (take-nil k)
@@ -164,13 +139,13 @@ entry-stands tag r e h =
     some-then (split (val (size .front)) (size .behind)) _ e h₁ λ rest q h₂.
     let a = split-some 2 r size p in
     let b = split-some (val (size .front)) (size .behind) rest q in
-    let t = tagged-some tag (rest .front) (rest .behind) e h₂ in
+    let t = tagged-back tag (rest .front) (rest .behind) e h₂ in
     let d : size .behind ≡ drop 2 r = a .2 in
     let n = val (size .front) in
     stands-from r n e (a .0) (rw d at (b .0))
-    (ap (λ (l : List ℕ). length (take n l)) (sym d) ∙ ap length (sym (b .1)) ∙ t .0)
-    (t .1 ∙ ap (drop 1) (b .1) ∙ ap (λ (l : List ℕ). drop 1 (take n l)) d)
-    (t .2 ∙ b .2 ∙ ap (drop n) d)
+    (ap (λ (l : List ℕ). length (take n l)) (sym d) ∙ ap length (sym (b .1) ∙ sym (t .0)))
+    (ap (drop 1) (t .0 ∙ b .1) ∙ ap (λ (l : List ℕ). drop 1 (take n l)) d)
+    (t .1 ∙ b .2 ∙ ap (drop n) d)
 
 -- by the length of its content, which is all that the code keeps
 pub content-stands : (tag : ℕ) (r : List ℕ) (o : OptionLength) (k : ℕ) → lengthOption o ≡ sizeIn (entryIn tag r) → o ≡ Length k

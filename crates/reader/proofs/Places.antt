@@ -11,10 +11,10 @@ use Rattle.word.specs.Be.{cut, val}
 use Rattle.word.proofs.Cut.{length-cut}
 use Rattle.model.specs.EditList.{_>>=_}
 use Rattle.settings.specs.Format.{Committer, Named, listed, committerIn, committersIn, noCommitter, nameIn}
+use Rattle.settings.proofs.Splits.{to-end}
 use Rattle.settings.proofs.Committers.{listed-length}
 use Rattle.reader.specs.declared.Stretch.{Stretch}
 use Rattle.reader.specs.Reading.{committersOf, placed, contentAt, Lists, fromFirst}
-use Rattle.reader.proofs.Entries.{to-end}
 use Rattle.reader.proofs.Committers.{Leads, leads}
 
 -- ---- a list that has a committer

@@ -28,7 +28,8 @@ use Rattle.reader.specs.declared.OptionTail.the-variants as optionTail
 use Rattle.reader.specs.declared.Summary.{Summary}
 use Rattle.reader.specs.declared.OptionSummary.{OptionSummary}
 use Rattle.reader.specs.Reading.{lengthOption, numberOption, sizeIn, valueIn, countIn, tailIn, tailOption, summaryIn, summaryOption}
-use Rattle.reader.proofs.Entries.{to-end, split-at, split-past, content-stands, number-behind, number-stands}
+use Rattle.settings.proofs.Splits.{to-end, split-at, split-past}
+use Rattle.reader.proofs.Entries.{content-stands, number-behind, number-stands}
 
 -- ---- the site
 

@@ -105,12 +105,12 @@ read-cases P known b u m f = known-or (isVersion known)
     version-or true o = formed o
     version-or false o = u
 
-    as : (b : List ℕ) → P (readAs known b)
-    as [] = m
-    as (v ∷ r) = version-or (isVersion v && leb v known) (cond (areBytes r) (settingsIn v r) none)
+    formed-as : (b : List ℕ) → P (readAs known b)
+    formed-as [] = m
+    formed-as (v ∷ r) = version-or (isVersion v && leb v known) (cond (areBytes r) (settingsIn v r) none)
 
     known-or : (t : Bool) → P (cond t (readAs known b) (refuse UnknownVersion))
-    known-or true = as b
+    known-or true = formed-as b
     known-or false = u
 
 -- the part is what stands at the offset and length that are answered

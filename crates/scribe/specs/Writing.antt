@@ -3,7 +3,7 @@ use mathlib.Core.Path.{_≡_}
 use mathlib.Core.Bool.{Bool, true, false, _||_, cond}
 use mathlib.Core.List.{List, [], _∷_, _++_}
 use mathlib.Core.Option.{Option, none, some, Option·getD}
-use Prim.Native.Nat.{ℕ, _+_}
+use Prim.Native.Nat.{ℕ, _+_, _*_}
 use lib.ListN.{length}
 use lib.Dec.{eqb}
 use Rattle.word.specs.Be.{be}
@@ -12,7 +12,7 @@ use Rattle.model.specs.declared.Refusal.the-variants.{MalformedRecord, UnknownV
 use Rattle.model.specs.Basic.{every, collect}
 use Rattle.model.specs.Outcome.{Outcome}
 use Rattle.model.specs.Outcome.Outcome.{refuse, pass}
-use Rattle.settings.specs.Format.{Committer, Settings, within, rising, isVersion, hasSite, entry, form, writable, listed, committersGiven, settingsGiven, fitted, afterwards}
+use Rattle.settings.specs.Format.{Committer, Settings, within, rising, isVersion, hasSite, entry, writable, listed, committersGiven, settingsGiven, fitted, afterwards}
 use Rattle.scribe.specs.declared.Writing.{Writing}
 use Rattle.scribe.specs.declared.Writing.the-variants.{Unknown, Malformed, Short, Written}
 
@@ -33,10 +33,14 @@ committersFrom numbers lengths names = Option·getD (committersGiven numbers len
 unfoldable pub contentFrom : List ℕ → List ℕ → List ℕ → List ℕ
 contentFrom numbers lengths names = collect listed (committersFrom numbers lengths names)
 
+-- how long their bytes are: 3 for each, and their names
+abbrev pub contentLength : List ℕ → List ℕ → ℕ
+contentLength numbers names = 3 * length numbers + length names
+
 -- committers are given, and a slot is as long as their bytes
 pub record Slot (numbers lengths names slot : List ℕ) : Type 0 where
   pub given : isSome (committersGiven numbers lengths names) ≡ true
-  pub sized : length slot ≡ length (contentFrom numbers lengths names)
+  pub sized : length slot ≡ contentLength numbers names
 
 -- the settings given, where committers are
 abbrev pub settingsFrom : ℕ → ℕ → ℕ → List ℕ → List ℕ → List ℕ → Settings
@@ -59,9 +63,8 @@ lengthFor v content = cond (hasSite v) (14 + content + 3 + 2) (14 + content)
 -- settings that can be written, and a slot that is as long as their record
 pub record Ready (v log mode site : ℕ) (numbers lengths names slot : List ℕ) : Type 0 where
   pub version : isVersion v ≡ true
-  pub given : isSome (committersGiven numbers lengths names) ≡ true
-  pub fits : writable v (settingsFrom log mode site numbers lengths names) ≡ true
-  pub sized : length slot ≡ length (form v (settingsFrom log mode site numbers lengths names))
+  pub fits : givenWritable v (settingsGiven log mode site (committersGiven numbers lengths names)) ≡ true
+  pub sized : length slot ≡ lengthFor v (contentLength numbers names)
 
 -- the length of what is written
 abbrev pub lengthIn : Outcome (List ℕ) → Outcome ℕ

@@ -1,11 +1,11 @@
 // Writes settings records. All is judged before the first byte is written, so that a refusal leaves the buffer as it is.
 ghost use mathlib.Core.Path.{_≡_};
-ghost use mathlib.Core.Bool.{true, _&&_};
-ghost use Prim.Native.Nat.{_+_, _<_, _≤_};
+ghost use mathlib.Core.Bool.{_&&_};
+ghost use Prim.Native.Nat.{_+_, _<_};
 ghost use lib.ListN.{length};
 ghost use lib.Dec.{ltb, leb};
 ghost use Rattle.word.specs.Be.{be};
-ghost use Rattle.settings.specs.Format.{within, isVersion, entry, form, settingsGiven, committersGiven, writeGiven};
+ghost use Rattle.settings.specs.Format.{within, entry, listed, form, settingsGiven, committersGiven, writeGiven};
 ghost use Rattle.scribe.specs.Writing.{givenRising, givenWritable, contentFrom, Slot, settingsFrom, Wrote, numbersFit, frontBytes, lengthFor, Ready};
 use model::WriteReflog;
 use settings::Heading;
@@ -123,10 +123,20 @@ fn put_front(slot: &mut [u8], version: u64, rest: u64, log: u64, mode: u64, cont
 {
     word::put_at(slot, Record::VERSION_AT, 1, version);
     word::put_at(slot, Record::LENGTH_AT, 2, rest);
-    put_number(&mut slot[3..7], Tag::LOG, 1, log);
-    put_number(&mut slot[7..11], Tag::MODE, 1, mode);
+    put_number(&mut slot[Record::ENTRIES..7], Tag::LOG, 1, log);
+    put_number(&mut slot[7..Record::COMMITTERS], Tag::MODE, 1, mode);
     word::put_at(slot, Record::COMMITTERS, 2, 1 + content);
     word::put_at(slot, Record::COMMITTERS + Tag::AT, 1, Tag::COMMITTERS);
+}
+
+// A committer: its number, its name's length, its name.
+fn put_committer(slot: &mut [u8], number: u64, name: &[u8])
+    requires { ⌜ length (now slot) ≡ 3 + length (now name) ⌝ }
+    ensures { λ _. ⌜ now (slot .exit) ≡ listed (record { number = number; name = now (name .entry) }) ⌝ }
+{
+    word::put_at(slot, 0, Heading::LENGTH_AT, number);
+    word::put_at(slot, Heading::LENGTH_AT, 1, name.len() as u64);
+    word::copy(&mut slot[Heading::NAME..], name);
 }
 
 // The committers, one after the other.
@@ -139,9 +149,7 @@ fn put_committers(slot: &mut [u8], numbers: &[u64], lengths: &[u64], names: &[u8
     }
     let length = lengths[0] as usize;
     let end = Heading::NAME + length;
-    word::put_at(slot, 0, Heading::LENGTH_AT, numbers[0]);
-    word::put_at(slot, Heading::LENGTH_AT, 1, lengths[0]);
-    word::copy(&mut slot[3..end], &names[0..length]);
+    put_committer(&mut slot[0..end], numbers[0], &names[0..length]);
     put_committers(
         &mut slot[end..],
         &numbers[1..],
@@ -179,14 +187,14 @@ fn put_record(
     let behind = Record::LIST + content;
     let rest = slot.len() - Record::ENTRIES;
     put_front(
-        &mut slot[0..14],
+        &mut slot[0..Record::LIST],
         version,
         rest as u64,
         log,
         mode,
         content as u64,
     );
-    put_committers(&mut slot[14..behind], numbers, lengths, names);
+    put_committers(&mut slot[Record::LIST..behind], numbers, lengths, names);
     if version == Record::VERSION_2 {
         put_number(&mut slot[behind..], Tag::SITE, Site::WIDTH, site);
     }

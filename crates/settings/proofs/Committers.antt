@@ -108,12 +108,12 @@ committer-back last r n b h =
 -- ---- all of them
 
 -- where a byte stands, one more is read
-more : (k last : ℕ) (r : List ℕ) → 0 < length r
+pub one-further : (k last : ℕ) (r : List ℕ) → 0 < length r
     → committersIn (suc k) last r
     ≡ (committerIn last r >>= λ n. committersIn k (n .committer .number) (n .behind) >>= λ others. some (n .committer ∷ others))
 unfolding committersIn
-more k last [] h = absurd (omega arith)
-more k last (x ∷ r) h = refl
+one-further k last [] h = absurd (omega arith)
+one-further k last (x ∷ r) h = refl
 
 -- committers that were written are read
 pub committers-in : (k last : ℕ) (cs : List Committer) → length cs ≤ k → rising last cs ≡ true
@@ -125,7 +125,7 @@ committers-in (suc k) last [] h g = refl
 committers-in (suc k) last (c ∷ cs) h g =
     let b = both-true (follows last c) (rising (c .number) cs) g in
     let e : 0 < length (listed c ++ collect listed cs) = rw (length-append, listed-length) (omega arith) in
-    more k last (listed c ++ collect listed cs) e
+    one-further k last (listed c ++ collect listed cs) e
     ∙ rw (committer-in last c (collect listed cs) (b .0), committers-in k (c .number) cs (omega arith) (b .1))
 
 -- committers that were read, of bytes

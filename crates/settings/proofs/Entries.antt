@@ -48,7 +48,7 @@ pub record Entered (tag : ℕ) (r : List ℕ) (e : Split) : Type 0 where
   pub rest : Bytes (e .behind)
 
 -- the tag and the content that are taken apart make the rest of the entry
-tagged-back : (tag : ℕ) (xs ys : List ℕ) (e : Split) → tagged tag xs ys ≡ some e → (tag ∷ e .front ≡ xs) × (e .behind ≡ ys)
+pub tagged-back : (tag : ℕ) (xs ys : List ℕ) (e : Split) → tagged tag xs ys ≡ some e → (tag ∷ e .front ≡ xs) × (e .behind ≡ ys)
 tagged-back tag [] ys e h = absurd (none-some h)
 tagged-back tag (t ∷ xs) ys e h =
     let i = cond-some (eqb t tag) _ e h in

@@ -2,13 +2,13 @@
 use mathlib.Core.Path.{_≡_, refl, sym, ap, subst, _∙_}
 use mathlib.Core.Bool.{Bool, true, false, cond}
 use mathlib.Core.List.{List, _++_}
-use mathlib.Core.Option.{some}
-use Prim.Native.Nat.{ℕ, _≤_}
+use mathlib.Core.Option.{none, some}
+use Prim.Native.Nat.{ℕ, _-_, _≤_, _<_}
 use native.Mathlib.Omega.{arith}
-use lib.ListN.{length, take, drop, length-append, take-append-drop}
-use lib.Seq.{take-at, drop-at, length-take-le}
+use lib.ListN.{length, take, drop, length-append, length-drop, take-append-drop}
+use lib.Seq.{take-at, drop-at, take-all, length-take-le}
 use lib.Dec.{leb}
-use borrow.Author.Tests.{leb-true, le-leb}
+use borrow.Author.Tests.{leb-true, le-leb, lt-leb}
 use Rattle.word.specs.Be.{Bytes, cut, val, be}
 use Rattle.word.proofs.Be.{be-val, bytes-take, bytes-drop}
 use Rattle.model.specs.declared.Refusal.{Refusal}
@@ -26,6 +26,26 @@ passed false m x a e = absurd (refuse-pass e)
 -- the middle one of three pieces is that stretch
 pub cut-seam : (p q r : List ℕ) (a k : ℕ) → length p ≡ a → length q ≡ k → cut a k (p ++ (q ++ r)) ≡ q
 cut-seam p q r a k e f = ap (take k) (drop-at p (q ++ r) a e) ∙ take-at q r k f
+
+-- all that stands behind the first b: what `&s[b..]` lends
+pub to-end : (b : ℕ) (r : List ℕ) → cut b (length r - b) r ≡ drop b r
+to-end b r = let e : length (drop b r) ≡ length r - b = length-drop b r in take-all (length r - b) (drop b r) (omega arith)
+
+-- the first k bytes, where there are as many
+pub split-at : (k : ℕ) (r : List ℕ) → k ≤ length r → split k r ≡ some (record { front = take k r; behind = drop k r })
+unfolding split
+split-at k r h = rw (le-leb k (length r) h)
+
+pub split-past : (k : ℕ) (r : List ℕ) → length r < k → split k r ≡ none
+unfolding split
+split-past k r h = rw (lt-leb k (length r) h)
+
+pub split-some : (k : ℕ) (r : List ℕ) (p : Split) → split k r ≡ some p → (k ≤ length r) × (p .front ≡ take k r) × (p .behind ≡ drop k r)
+unfolding split
+split-some k r p e =
+    let h = cond-some (leb k (length r)) (some (record { front = take k r; behind = drop k r })) p e in
+    let q = some-is (h .1) in
+    (leb-true k (length r) (h .0), ap (λ (p : Split). p .front) (sym q), ap (λ (p : Split). p .behind) (sym q))
 
 -- the pieces of a list are the two that it was made of
 pub split-in : (k : ℕ) (xs ys : List ℕ) → length xs ≡ k → split k (xs ++ ys) ≡ some (record { front = xs; behind = ys })

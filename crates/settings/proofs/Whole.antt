@@ -101,10 +101,9 @@ module _ (v : ℕ) (s : Settings) where
   form-sum = simp (length-append, length-be, entries-length) (omega arith)
 
   -- 14 bytes more than the committers, and the site's 5
-  pub form-length : isVersion v ≡ true
-      → length (form v s)
+  pub form-length : length (form v s)
       ≡ cond (hasSite v) (14 + length (collect listed (s .committers)) + 3 + 2) (14 + length (collect listed (s .committers)))
-  form-length h = form-sum ∙ with-site (hasSite v) (s .site) _
+  form-length = form-sum ∙ with-site (hasSite v) (s .site) _
 
   -- 16 committers of 35 bytes are the most
   committers-short : Writable v s → length (content s) ≤ 560
