@@ -3,7 +3,7 @@
 ghost use mathlib.Core.List.{[], _∷_};
 ghost use Rattle.model.specs.Reply.Call.{start, addName, nameBytes, loadLoose, loadPacked, lockName, unlockName};
 ghost use Rattle.model.specs.Reply.Call.{lockPacked, unlockPacked, prepare, commit, rollback, readName, readLine, readRow};
-ghost use Rattle.settings.specs.Format.{settingsGiven, committersGiven};
+ghost use Rattle.settings.specs.Lent.{settingsGiven, committersGiven};
 ghost use Rattle.calls.specs.Call.{call, startCall, Did};
 ghost use Rattle.records.specs.Record.{recordCall};
 ghost use Rattle.records.specs.Record.RecordCall.{readSettings, readCommitter, writeSettings};

@@ -15,7 +15,8 @@ use Rattle.model.specs.declared.Refusal.the-variants.{MalformedRecord, UnknownV
 use Rattle.model.specs.Outcome.{Outcome}
 use Rattle.model.specs.Outcome.Outcome.{refuse, pass}
 use Rattle.model.proofs.Binds.{refuse-pass, refuse-is, pass-is}
-use Rattle.settings.specs.Format.{Committer, Settings, committersIn, read, nameIn}
+use Rattle.settings.specs.Format.{Committer, Settings, committersIn, read}
+use Rattle.settings.specs.Lent.{nameIn}
 use Rattle.settings.proofs.Whole.{list-stands}
 use Rattle.reader.specs.declared.Summary.{Summary}
 use Rattle.reader.specs.declared.Reading.{Reading}

@@ -10,7 +10,8 @@ use mir.Val.{Fits}
 use Rattle.word.specs.Be.{cut, val}
 use Rattle.word.proofs.Cut.{length-cut}
 use Rattle.model.specs.EditList.{_>>=_}
-use Rattle.settings.specs.Format.{Committer, Named, listed, committerIn, committersIn, noCommitter, nameIn}
+use Rattle.settings.specs.Format.{Committer, Named, listed, committerIn, committersIn}
+use Rattle.settings.specs.Lent.{noCommitter, nameIn}
 use Rattle.settings.proofs.Splits.{to-end}
 use Rattle.settings.proofs.Committers.{listed-length}
 use Rattle.reader.specs.declared.Stretch.{Stretch}

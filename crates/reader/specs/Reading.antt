@@ -32,7 +32,8 @@ use Rattle.reader.specs.declared.Reading.the-variants.{Unknown, Malforme
 use Rattle.reader.specs.declared.Stretch.{Stretch}
 use Rattle.reader.specs.declared.Finding.{Finding}
 use Rattle.reader.specs.declared.Finding.the-variants as finding
-use Rattle.settings.specs.Format.{Committer, Settings, Split, Number, Named, hasSite, entryIn, numberIn, committerIn, committersIn, siteIn, entriesIn, noCommitter, committerAt, nameIn, nameAt}
+use Rattle.settings.specs.Format.{Committer, Settings, Split, Number, Named, hasSite, entryIn, numberIn, committerIn, committersIn, siteIn, entriesIn}
+use Rattle.settings.specs.Lent.{noCommitter, committerAt, nameIn, nameAt}
 
 -- ---- entries
 

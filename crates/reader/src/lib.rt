@@ -220,7 +220,7 @@ fn entries_in(part: &[u8], version: u64) -> OptionSummary
     ) else {
         return OptionSummary::NoSummary;
     };
-    let behind = &part[4..];
+    let behind = &part[Tag::OF_BYTE..];
     let OptionNumber::Number(mode) = number_in(
         behind,
         Tag::MODE,
@@ -230,7 +230,7 @@ fn entries_in(part: &[u8], version: u64) -> OptionSummary
     ) else {
         return OptionSummary::NoSummary;
     };
-    let OptionTail::Tail(tail) = tail_in(&behind[4..], version) else {
+    let OptionTail::Tail(tail) = tail_in(&behind[Tag::OF_BYTE..], version) else {
         return OptionSummary::NoSummary;
     };
     OptionSummary::Summary(Summary {

@@ -11,7 +11,8 @@ use Rattle.model.specs.declared.Refusal.the-variants.{MalformedRecord, UnknownV
 use Rattle.model.specs.Outcome.{Outcome, orRefuse}
 use Rattle.model.specs.Outcome.Outcome.{refuse, pass}
 use Rattle.model.specs.Numbers.{Answer, answer, refusalAnswer}
-use Rattle.settings.specs.Format.{Settings, isVersion, settingsIn, readAs, read, writeGiven, fitted, afterwards}
+use Rattle.settings.specs.Format.{Settings, isVersion, settingsIn, readAs, read}
+use Rattle.settings.specs.Lent.{writeGiven, fitted, afterwards}
 use Rattle.reader.specs.declared.Summary.{Summary}
 use Rattle.reader.specs.declared.Reading.{Reading}
 use Rattle.reader.specs.declared.Reading.the-variants.{Unknown, Malformed, Read}

@@ -12,7 +12,8 @@ use Rattle.model.specs.declared.Refusal.the-variants.{NothingThere, ShortBuffer
 use Rattle.model.specs.Outcome.{Outcome}
 use Rattle.model.specs.Outcome.Outcome.{refuse, pass}
 use Rattle.model.specs.Numbers.{Answer, answer, refusalAnswer}
-use Rattle.settings.specs.Format.{Settings, read, committerAt, nameAt, writeGiven, fitted, afterwards}
+use Rattle.settings.specs.Format.{Settings, read}
+use Rattle.settings.specs.Lent.{committerAt, nameAt, writeGiven, fitted, afterwards}
 use Rattle.settings.proofs.Stated.{name-stands}
 use Rattle.answers.specs.declared.Verdict.{Verdict}
 use Rattle.answers.specs.Answers.{recordOf}

@@ -9,7 +9,8 @@ use Rattle.model.specs.Outcome.Outcome.{pass}
 use Rattle.answers.specs.declared.Verdict.{Verdict}
 use Rattle.answers.specs.Answers.{recordOf}
 use Rattle.model.specs.Numbers.{answer}
-use Rattle.settings.specs.Format.{Settings, read, writeGiven, committerAt}
+use Rattle.settings.specs.Format.{Settings, read}
+use Rattle.settings.specs.Lent.{writeGiven, committerAt}
 use Rattle.calls.specs.Call.{Did}
 use Rattle.records.specs.Record.{RecordCall, Kept, recordCall, Keeps, committerPart}
 use Rattle.records.specs.Record.RecordCall.{writeSettings}

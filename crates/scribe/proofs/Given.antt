@@ -15,7 +15,8 @@ use Rattle.word.proofs.Be.{bytes-all, bytes-take, bytes-are, length-be}
 use Rattle.word.proofs.Tests.{both-true, every-at}
 use Rattle.model.specs.Basic.{collect}
 use Rattle.model.specs.EditList.{_>>=_}
-use Rattle.settings.specs.Format.{Committer, within, follows, rising, listed, split, committersGiven, settingsGiven}
+use Rattle.settings.specs.Format.{Committer, within, follows, rising, listed, split}
+use Rattle.settings.specs.Lent.{committersGiven, settingsGiven}
 use Rattle.settings.proofs.Splits.{to-end}
 use Rattle.settings.proofs.Committers.{Fine, fine, listed-length}
 use Rattle.scribe.specs.Writing.{givenRising, givenWritable, committersFrom, contentFrom, contentLength, numbersFit}

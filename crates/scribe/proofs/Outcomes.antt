@@ -13,7 +13,8 @@ use borrow.Author.Tests.{le-leb, lt-leb, not-true, not-false}
 use Rattle.word.specs.Cut.{put}
 use Rattle.model.specs.declared.Refusal.the-variants.{MalformedRecord}
 use Rattle.model.specs.Outcome.Outcome.{refuse, pass}
-use Rattle.settings.specs.Format.{Committer, Settings, isVersion, form, write, committersGiven, settingsGiven, writeGiven}
+use Rattle.settings.specs.Format.{Committer, Settings, isVersion, form, write}
+use Rattle.settings.specs.Lent.{committersGiven, settingsGiven, writeGiven}
 use Rattle.scribe.specs.declared.Writing.the-variants.{Unknown, Malformed, Short, Written}
 use Rattle.scribe.specs.Writing.{givenWritable, contentLength, settingsFrom, lengthFor, Ready, Wrote}
 use Rattle.scribe.proofs.Given.{writable-given, writable-small}

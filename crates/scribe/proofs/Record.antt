@@ -12,7 +12,8 @@ use Rattle.word.specs.Be.{be}
 use Rattle.word.specs.Codec.{isSome}
 use Rattle.word.specs.Cut.{put}
 use Rattle.word.proofs.Be.{length-be}
-use Rattle.settings.specs.Format.{isVersion, hasSite, entry, siteEntry, entries, form, committersGiven}
+use Rattle.settings.specs.Format.{isVersion, hasSite, entry, siteEntry, entries, form}
+use Rattle.settings.specs.Lent.{committersGiven}
 use Rattle.scribe.specs.Writing.{contentFrom, contentLength, Slot, settingsFrom, frontBytes, lengthFor, Ready}
 use Rattle.settings.proofs.Splits.{to-end}
 use Rattle.settings.proofs.Entries.{entry-length}

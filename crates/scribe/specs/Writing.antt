@@ -12,7 +12,8 @@ use Rattle.model.specs.declared.Refusal.the-variants.{MalformedRecord, UnknownV
 use Rattle.model.specs.Basic.{every, collect}
 use Rattle.model.specs.Outcome.{Outcome}
 use Rattle.model.specs.Outcome.Outcome.{refuse, pass}
-use Rattle.settings.specs.Format.{Committer, Settings, within, rising, isVersion, hasSite, entry, writable, listed, committersGiven, settingsGiven, fitted, afterwards}
+use Rattle.settings.specs.Format.{Committer, Settings, within, rising, isVersion, hasSite, entry, writable, listed}
+use Rattle.settings.specs.Lent.{committersGiven, settingsGiven, fitted, afterwards}
 use Rattle.scribe.specs.declared.Writing.{Writing}
 use Rattle.scribe.specs.declared.Writing.the-variants.{Unknown, Malformed, Short, Written}
 

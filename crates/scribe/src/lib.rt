@@ -5,7 +5,8 @@ ghost use Prim.Native.Nat.{_+_, _<_};
 ghost use lib.ListN.{length};
 ghost use lib.Dec.{ltb, leb};
 ghost use Rattle.word.specs.Be.{be};
-ghost use Rattle.settings.specs.Format.{within, entry, listed, form, settingsGiven, committersGiven, writeGiven};
+ghost use Rattle.settings.specs.Format.{within, entry, listed, form};
+ghost use Rattle.settings.specs.Lent.{settingsGiven, committersGiven, writeGiven};
 ghost use Rattle.scribe.specs.Writing.{givenRising, givenWritable, contentFrom, Slot, settingsFrom, Wrote, numbersFit, frontBytes, lengthFor, Ready};
 use model::WriteReflog;
 use settings::Heading;
@@ -123,8 +124,13 @@ fn put_front(slot: &mut [u8], version: u64, rest: u64, log: u64, mode: u64, cont
 {
     word::put_at(slot, Record::VERSION_AT, 1, version);
     word::put_at(slot, Record::LENGTH_AT, 2, rest);
-    put_number(&mut slot[Record::ENTRIES..7], Tag::LOG, 1, log);
-    put_number(&mut slot[7..Record::COMMITTERS], Tag::MODE, 1, mode);
+    put_number(&mut slot[Record::ENTRIES..Record::MODE], Tag::LOG, 1, log);
+    put_number(
+        &mut slot[Record::MODE..Record::COMMITTERS],
+        Tag::MODE,
+        1,
+        mode,
+    );
     word::put_at(slot, Record::COMMITTERS, 2, 1 + content);
     word::put_at(slot, Record::COMMITTERS + Tag::AT, 1, Tag::COMMITTERS);
 }

@@ -19,7 +19,7 @@ use Rattle.model.specs.Basic.{collect}
 use Rattle.model.specs.EditList.{_>>=_}
 use Rattle.model.proofs.Binds.{none-some, some-is, some-then}
 use Rattle.settings.specs.Format.{Committer, Named, within, follows, rising, listed, split, followed, committerIn, committersIn}
-use Rattle.settings.specs.Format.{nameIn, noCommitter}
+use Rattle.settings.specs.Lent.{nameIn, noCommitter}
 use Rattle.settings.proofs.Splits.{cut-seam, split-in, Pieces, split-back}
 
 -- ---- one committer

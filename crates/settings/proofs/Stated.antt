@@ -6,7 +6,8 @@ use lib.ListN.{length, getD}
 use borrow.Author.Tests.{eqb-true}
 use Rattle.word.specs.Be.{cut}
 use Rattle.model.proofs.Binds.{pass-is}
-use Rattle.settings.specs.Format.{write, read, committerAt, nameAt}
+use Rattle.settings.specs.Format.{write, read}
+use Rattle.settings.specs.Lent.{committerAt, nameAt}
 use Rattle.settings.specs.Stated.{ReadWritten, WrittenRead, OneEncoding, OldRefuses, OldAgrees, OldSite, NameStands, Short}
 use Rattle.settings.proofs.Whole.{Written, written, is-written, read-form, was-written, name-at, form-short}
 

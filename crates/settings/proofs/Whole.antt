@@ -20,7 +20,8 @@ use Rattle.model.specs.Outcome.Outcome.{pass}
 use Rattle.model.proofs.Binds.{none-some, some-is, some-then, cond-some, pass-is, refuse-pass, orRefuse-inv}
 use Rattle.settings.specs.Format.{Committer, Settings, within, rising, inBounds, isVersion, hasSite, entry, listed}
 use Rattle.settings.specs.Format.{siteEntry, entries, form, writable, write, split, entryIn, numberIn, committersIn, ended, siteIn}
-use Rattle.settings.specs.Format.{entriesIn, settingsIn, read, committerAt, nameAt, nameIn}
+use Rattle.settings.specs.Format.{entriesIn, settingsIn, read}
+use Rattle.settings.specs.Lent.{committerAt, nameAt, nameIn}
 use Rattle.settings.proofs.Splits.{passed, cut-seam, split-in, Pieces, split-back}
 use Rattle.settings.proofs.Entries.{entry-length, entry-bytes, entry-in, Entered, entry-back, number-in, Numbered, number-back}
 use Rattle.settings.proofs.Committers.{committers-in, Listed, committers-back, all-short, all-bytes, name-in}

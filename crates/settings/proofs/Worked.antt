@@ -9,9 +9,11 @@ use Rattle.model.specs.declared.Refusal.the-variants.{MalformedRecord, UnknownV
 use Rattle.model.specs.Basic.{text}
 use Rattle.model.specs.Outcome.{Outcome}
 use Rattle.model.specs.Outcome.Outcome.{refuse, pass}
-use Rattle.settings.specs.Format.{Committer, Settings, write, read, nameAt}
+use Rattle.settings.specs.Format.{Committer, Settings, write, read}
+use Rattle.settings.specs.Lent.{nameAt}
 use Rattle.settings.specs.Format.{follows, rising, inBounds, entry, listed, siteEntry, entries, form, writable, split, entryIn}
-use Rattle.settings.specs.Format.{numberIn, committerIn, committersIn, siteIn, entriesIn, settingsIn, nameIn}
+use Rattle.settings.specs.Format.{numberIn, committerIn, committersIn, siteIn, entriesIn, settingsIn}
+use Rattle.settings.specs.Lent.{nameIn}
 
 -- opens every definition, for claims that compute
 unfoldable open-all : Unit {0}

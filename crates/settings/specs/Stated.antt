@@ -7,7 +7,8 @@ use lib.ListN.{length, getD}
 use Rattle.word.specs.Be.{cut}
 use Rattle.model.specs.declared.Refusal.the-variants.{UnknownVersion}
 use Rattle.model.specs.Outcome.Outcome.{refuse, pass}
-use Rattle.settings.specs.Format.{Settings, isVersion, write, read, committerAt, nameAt}
+use Rattle.settings.specs.Format.{Settings, isVersion, write, read}
+use Rattle.settings.specs.Lent.{committerAt, nameAt}
 
 -- Reading what was written gives the same settings. (Version 1 is written for site 0 alone.)
 abbrev pub ReadWritten : Type 0

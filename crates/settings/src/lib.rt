@@ -18,6 +18,9 @@ impl Record {
 
     pub const ENTRIES: usize = 3;
 
+    // The usual mode's entry, behind the log setting's.
+    pub const MODE: usize = 7;
+
     // The committers' entry, whose content has no fixed length, and its content.
     pub const COMMITTERS: usize = 11;
 
@@ -43,6 +46,9 @@ impl Tag {
     pub const AT: usize = 2;
 
     pub const CONTENT: usize = 3;
+
+    // How long an entry is whose content is one byte.
+    pub const OF_BYTE: usize = 4;
 }
 
 // The site's number.

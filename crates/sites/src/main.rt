@@ -1,0 +1,81 @@
+// A site's settings, through the exported calls: records are written, read by an older and a newer reader, damaged, and started with. Each
+// answer is one line: what was asked, the number, and the first four places. The file stdout has what docs/SETTINGS.md says of each.
+mod asks;
+mod bounds;
+
+use settings::Record;
+
+// A record of 43 bytes, which three stages look at: the example of version 2.
+fn sample(record: &mut [u8]) {
+    let numbers = [12u64, 40u64];
+    let lengths = [7u64, 11u64];
+    asks::write(
+        b"example",
+        record,
+        Record::VERSION_2,
+        7,
+        &numbers,
+        &lengths,
+        b"plannernight shift",
+    );
+}
+
+// An older reader refuses it, a newer one reads it, and places count from 0.
+fn readers(record: &[u8]) {
+    asks::read(b"known 0", record, 0);
+    asks::read(b"known 1", record, Record::VERSION_1);
+    asks::read(b"known 2", record, Record::VERSION_2);
+    asks::read(b"known 3", record, 3);
+}
+
+fn places(record: &[u8]) {
+    asks::committer(b"place 0", record, 0);
+    asks::committer(b"place 1", record, 1);
+    asks::committer(b"place 2", record, 2);
+    asks::committer(b"place 2^32", record, 4294967296);
+}
+
+// One byte of it is one greater. The line says which, and only where the record is still read.
+fn damage(record: &mut [u8], i: usize) {
+    if i < record.len() {
+        let kept = record[i];
+        record[i] = std::num::wrapping_add_u8(kept, 1);
+        asks::still(i as u64, record);
+        record[i] = kept;
+    }
+}
+
+// Each byte in its turn.
+fn damages(record: &mut [u8]) {
+    let mut i: usize = 0;
+    while i < 43 {
+        damage(record, i);
+        i += 1;
+    }
+}
+
+// The first bytes of a buffer.
+fn front(what: &[u8], buffer: &[u8], n: usize) {
+    if n <= buffer.len() {
+        asks::read(what, &buffer[0..n], Record::VERSION_2);
+    }
+}
+
+// What is cut off, and what is too much.
+fn lengths(buffer: &[u8]) {
+    front(b"empty", buffer, 0);
+    front(b"version alone", buffer, 1);
+    front(b"one byte short", buffer, 42);
+    front(b"one byte more", buffer, 44);
+}
+
+fn main() {
+    let mut record = [0u8; 579];
+    sample(&mut record);
+    readers(&record[0..43]);
+    places(&record[0..43]);
+    lengths(&record);
+    asks::start(b"start", &record[0..43]);
+    damages(&mut record[0..43]);
+    bounds::all();
+}
