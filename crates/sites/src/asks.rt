@@ -32,7 +32,7 @@ pub fn committer(what: &[u8], record: &[u8], place: u64) {
     tell(what, number, &answer);
 }
 
-// A record of usual settings, for a site and its committers.
+// A record with log setting 1 and usual mode 2, for a site and its committers.
 pub fn write(
     what: &[u8],
     buffer: &mut [u8],
@@ -47,7 +47,7 @@ pub fn write(
         buffer,
         version,
         1,
-        1,
+        2,
         site,
         numbers,
         lengths,
@@ -70,12 +70,13 @@ pub fn start(what: &[u8], record: &[u8]) {
     say::end();
 }
 
-// A damaged record that is still read, with the place that was changed.
-pub fn still(i: u64, record: &[u8]) {
+// A damaged record that is still read, with the place that was changed, and by how much.
+pub fn still(i: u64, by: u8, record: &[u8]) {
     let mut answer = [0u8; 128];
     let number = dehlbazin::dehlbazin_read_settings(record, Record::VERSION_2, &mut answer);
     if number == Answer::DONE {
         say::number(b"byte ", i);
-        tell(b" and one", number, &answer);
+        say::number(b" and ", by as u64);
+        tell(b"", number, &answer);
     }
 }

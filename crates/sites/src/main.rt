@@ -5,7 +5,7 @@ mod bounds;
 
 use settings::Record;
 
-// A record of 43 bytes, which three stages look at: the example of version 2.
+// A record of 43 bytes, which most stages look at.
 fn sample(record: &mut [u8]) {
     let numbers = [12u64, 40u64];
     let lengths = [7u64, 11u64];
@@ -35,21 +35,22 @@ fn places(record: &[u8]) {
     asks::committer(b"place 2^32", record, 4294967296);
 }
 
-// One byte of it is one greater. The line says which, and only where the record is still read.
-fn damage(record: &mut [u8], i: usize) {
+// One byte of a record is another. The line says which, and only where the record is still read.
+fn damage(record: &mut [u8], i: usize, by: u8) {
     if i < record.len() {
         let kept = record[i];
-        record[i] = std::num::wrapping_add_u8(kept, 1);
-        asks::still(i as u64, record);
+        record[i] = std::num::wrapping_add_u8(kept, by);
+        asks::still(i as u64, by, record);
         record[i] = kept;
     }
 }
 
-// Each byte in its turn.
+// Each byte in its turn is one greater, and one less.
 fn damages(record: &mut [u8]) {
     let mut i: usize = 0;
     while i < 43 {
-        damage(record, i);
+        damage(record, i, 1);
+        damage(record, i, 255);
         i += 1;
     }
 }
@@ -69,6 +70,31 @@ fn lengths(buffer: &[u8]) {
     front(b"one byte more", buffer, 44);
 }
 
+// Two committers with numbers that follow each other, in version 1.
+fn neighbours() {
+    let mut record = [0u8; 22];
+    asks::write(
+        b"neighbours",
+        &mut record,
+        Record::VERSION_1,
+        0,
+        &[1u64, 2u64],
+        &[1u64, 1u64],
+        b"ab",
+    );
+    damages(&mut record);
+}
+
+// A record whose one committer has a name of n bytes, made by hand.
+fn named(what: &[u8], rest: u8, entry: u8, n: u8, total: usize) {
+    let mut record = [97u8; 50];
+    word::copy(
+        &mut record[0..17],
+        &[1u8, 0, rest, 0, 2, 1, 1, 0, 2, 2, 1, 0, entry, 3, 0, 1, n],
+    );
+    front(what, &record, total);
+}
+
 fn main() {
     let mut record = [0u8; 579];
     sample(&mut record);
@@ -77,5 +103,8 @@ fn main() {
     lengths(&record);
     asks::start(b"start", &record[0..43]);
     damages(&mut record[0..43]);
+    neighbours();
+    named(b"32 bytes are read", 46, 36, 32, 49);
+    named(b"33 bytes are not", 47, 37, 33, 50);
     bounds::all();
 }

@@ -17,6 +17,9 @@ loop-holds c = search needs
 damage-requires : tie.Need-damage-requires Inv-loop μ-loop
 damage-requires c κs = search needs
 
+damage-requires-2 : tie.Need-damage-requires-2 Inv-loop μ-loop
+damage-requires-2 c κs = search needs
+
 add-i : tie.Need-add-i Inv-loop μ-loop
 add-i c = search needs
 
@@ -40,6 +43,7 @@ damages-spec =
     μ-loop
     loop-holds
     damage-requires
+    damage-requires-2
     add-i
     loop-less
     loop-again
