@@ -81,7 +81,7 @@ fn content_of(part: &[u8], tag: u64) -> OptionLength
     if part.len() < Tag::CONTENT {
         return OptionLength::NoLength;
     }
-    let rest = word::get_at(part, 0, Tag::AT) as usize;
+    let rest = word::get_at(part, 0, 2) as usize;
     if rest == 0 {
         return OptionLength::NoLength;
     }
@@ -124,7 +124,7 @@ fn heading_in(list: &[u8], last: u64) -> OptionHeading
     if list.len() < Heading::NAME {
         return OptionHeading::NoHeading;
     }
-    let number = word::get_at(list, 0, Heading::LENGTH_AT);
+    let number = word::get_at(list, 0, 2);
     if number <= last {
         return OptionHeading::NoHeading;
     }
@@ -145,7 +145,7 @@ fn heading_in(list: &[u8], last: u64) -> OptionHeading
 }
 
 // How many committers a list has, if it is well formed and has room for them.
-pub fn count_committers(list: &[u8], room: usize, last: u64) -> OptionLength
+fn count_committers(list: &[u8], room: usize, last: u64) -> OptionLength
     ensures { λ r. ⌜ lengthOption r ≡ countIn (committersIn room last (now (list .entry))) ⌝ }
 {
     if list.len() == 0 {
@@ -285,7 +285,7 @@ fn committer_from(list: &[u8], place: usize, room: usize, last: u64) -> Stretch
     requires { ⌜ place < length (committersOf room last (now list)) ⌝ }
     ensures { λ r. ⌜ r ≡ placed place (committersOf room last (now (list .entry))) ⌝ }
 {
-    let number = word::get_at(list, 0, Heading::LENGTH_AT);
+    let number = word::get_at(list, 0, 2);
     let length = word::get_at(list, Heading::LENGTH_AT, 1) as usize;
     if place == 0 {
         return Stretch {

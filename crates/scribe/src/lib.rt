@@ -140,7 +140,7 @@ fn put_committer(slot: &mut [u8], number: u64, name: &[u8])
     requires { ⌜ length (now slot) ≡ 3 + length (now name) ⌝ }
     ensures { λ _. ⌜ now (slot .exit) ≡ listed (record { number = number; name = now (name .entry) }) ⌝ }
 {
-    word::put_at(slot, 0, Heading::LENGTH_AT, number);
+    word::put_at(slot, 0, 2, number);
     word::put_at(slot, Heading::LENGTH_AT, 1, name.len() as u64);
     word::copy(&mut slot[Heading::NAME..], name);
 }

@@ -25,9 +25,6 @@ impl Record {
     pub const COMMITTERS: usize = 11;
 
     pub const LIST: usize = 14;
-
-    // The longest record that can be written.
-    pub const LONGEST: usize = 579;
 }
 
 // An entry: the length of its rest in 2 bytes, its tag, its content.
