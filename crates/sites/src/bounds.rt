@@ -2,89 +2,52 @@
 use crate::asks::write;
 use settings::Record;
 
+// A site with one committer, whose name has as many bytes as are said; with two of one byte each.
+fn one(what: &[u8], number: u64, length: u64, name: &[u8]) {
+    let mut buffer = [0u8; 579];
+    let numbers = [number];
+    let lengths = [length];
+    write(
+        what,
+        &mut buffer,
+        Record::VERSION_2,
+        65535,
+        &numbers,
+        &lengths,
+        name,
+    );
+}
+
+fn two(what: &[u8], first: u64, second: u64) {
+    let mut buffer = [0u8; 579];
+    let numbers = [first, second];
+    let lengths = [1u64, 1u64];
+    write(
+        what,
+        &mut buffer,
+        Record::VERSION_1,
+        0,
+        &numbers,
+        &lengths,
+        b"ab",
+    );
+}
+
 // Names of 1, 32 and 33 bytes, and of none.
 fn names() {
-    let mut buffer = [0u8; 579];
     let bytes = [97u8; 33];
-    let numbers = [65535u64];
-    write(
-        b"a name of 1",
-        &mut buffer,
-        Record::VERSION_2,
-        65535,
-        &numbers,
-        &[1u64],
-        &bytes[0..1],
-    );
-    write(
-        b"of 32",
-        &mut buffer,
-        Record::VERSION_2,
-        65535,
-        &numbers,
-        &[32u64],
-        &bytes[0..32],
-    );
-    write(
-        b"of 33",
-        &mut buffer,
-        Record::VERSION_2,
-        65535,
-        &numbers,
-        &[33u64],
-        &bytes,
-    );
-    write(
-        b"of 0",
-        &mut buffer,
-        Record::VERSION_2,
-        65535,
-        &numbers,
-        &[0u64],
-        &bytes[0..0],
-    );
+    one(b"a name of 1", 65535, 1, &bytes[0..1]);
+    one(b"of 32", 65535, 32, &bytes[0..32]);
+    one(b"of 33", 65535, 33, &bytes);
+    one(b"of 0", 65535, 0, &bytes[0..0]);
 }
 
 // Numbers that do not rise, or do not fit.
 fn numbers() {
-    let mut buffer = [0u8; 579];
-    let lengths = [1u64, 1u64];
-    write(
-        b"rising",
-        &mut buffer,
-        Record::VERSION_1,
-        0,
-        &[1u64, 2u64],
-        &lengths,
-        b"ab",
-    );
-    write(
-        b"equal",
-        &mut buffer,
-        Record::VERSION_1,
-        0,
-        &[2u64, 2u64],
-        &lengths,
-        b"ab",
-    );
-    write(
-        b"from 0",
-        &mut buffer,
-        Record::VERSION_1,
-        0,
-        &[0u64, 2u64],
-        &lengths,
-        b"ab",
-    );
-    write(
-        b"to 65536",
-        &mut buffer,
-        Record::VERSION_1,
-        0,
-        &[1u64, 65536u64],
-        &lengths,
-        b"ab",
-    );
+    two(b"rising", 1, 2);
+    two(b"equal", 2, 2);
+    two(b"from 0", 0, 2);
+    two(b"to 65536", 1, 65536);
 }
 
 // Settings with no committers.

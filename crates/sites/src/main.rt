@@ -3,6 +3,7 @@
 mod asks;
 mod bounds;
 
+use settings::Heading;
 use settings::Record;
 
 // A record of 43 bytes, which most stages look at.
@@ -85,26 +86,49 @@ fn neighbours() {
     damages(&mut record);
 }
 
-// A record whose one committer has a name of n bytes, made by hand.
-fn named(what: &[u8], rest: u8, entry: u8, n: u8, total: usize) {
-    let mut record = [97u8; 50];
-    word::copy(
-        &mut record[0..17],
-        &[1u8, 0, rest, 0, 2, 1, 1, 0, 2, 2, 1, 0, entry, 3, 0, 1, n],
+fn set(record: &mut [u8], i: usize, value: u8) {
+    if i < record.len() {
+        record[i] = value;
+    }
+}
+
+// The longest name; and one that is a byte longer, in a record that is otherwise right, since its three lengths say so too.
+fn longest_name(record: &mut [u8]) {
+    asks::write(
+        b"longest name",
+        record,
+        Record::VERSION_1,
+        0,
+        &[1u64],
+        &[32u64],
+        b"aaaaaaaaaaaaaaaaaaaaaaaaaaaaaaaa",
     );
-    front(what, &record, total);
+    front(b"it is read", record, 49);
+    set(record, Record::LENGTH_AT + 1, 47);
+    set(record, Record::COMMITTERS + 1, 37);
+    set(record, Record::LIST + Heading::LENGTH_AT, 33);
+    front(b"33 bytes are not", record, 50);
+}
+
+// What is asked of the first record, as it stands.
+fn whole(record: &[u8]) {
+    readers(record);
+    places(record);
+    asks::start(b"start", record);
+}
+
+// Other records.
+fn others() {
+    neighbours();
+    longest_name(&mut [97u8; 50]);
+    bounds::all();
 }
 
 fn main() {
-    let mut record = [0u8; 579];
-    sample(&mut record);
-    readers(&record[0..43]);
-    places(&record[0..43]);
-    lengths(&record);
-    asks::start(b"start", &record[0..43]);
-    damages(&mut record[0..43]);
-    neighbours();
-    named(b"32 bytes are read", 46, 36, 32, 49);
-    named(b"33 bytes are not", 47, 37, 33, 50);
-    bounds::all();
+    let mut buffer = [0u8; 579];
+    sample(&mut buffer);
+    lengths(&buffer);
+    whole(&buffer[0..43]);
+    damages(&mut buffer[0..43]);
+    others();
 }
