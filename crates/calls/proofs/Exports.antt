@@ -24,6 +24,7 @@ use Rattle.model.specs.Load.{settingOf, started}
 use Rattle.model.specs.Calls.{step}
 use Rattle.model.specs.Numbers.{Answer, answerOf, refusalAnswer}
 use Rattle.answers.specs.declared.Verdict.{Verdict}
+use Rattle.answers.specs.Answers.{answerBy}
 use Rattle.model.specs.Reached.{Reached, leaves}
 use Rattle.model.specs.Reached.Reached.{begun, after}
 use Rattle.model.proofs.Kept.{reached-sound}
@@ -45,9 +46,12 @@ determined o n n′ a₁ a₂ lent₁ lent₂ d e = (d .code ∙ sym (e .code), 
 verdict : Answer → Verdict
 verdict x = record { number = x .number; places = x .places }
 
-pub below-determined : BelowDetermined
+pub one-verdict : (v v′ : Verdict) → answerBy v ≡ answerBy v′ → v ≡ v′
 unfolding verdict
-below-determined reply r v v′ r₁ r₂ d e = (ap verdict (d .answer ∙ sym (e .answer)), d .region ∙ sym (e .region))
+one-verdict v v′ e = ap verdict e
+
+pub below-determined : BelowDetermined
+below-determined reply r v v′ r₁ r₂ d e = (one-verdict v v′ (d .answer ∙ sym (e .answer)), d .region ∙ sym (e .region))
 
 pub part-determined : PartDetermined
 part-determined n r p q d e = d ∙ sym e

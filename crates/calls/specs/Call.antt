@@ -98,6 +98,7 @@ outOf reply r = record {
 abbrev pub untouched : List ℕ → List (List ℕ) → Out
 untouched a lent = record { code = 1; answer = a; lent = lent }
 
+-- what the caller gets of any reply
 abbrev pub replied : Reply → List ℕ → List ℕ → Out
 replied reply r a = cond (eqb (length a) 128) (outOf reply r) (untouched a (r ∷ []))
 

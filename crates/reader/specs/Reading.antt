@@ -128,11 +128,11 @@ pub record Lists (place : ℕ) (r : List ℕ) : Type 0 where
   pub whole : contentEnd r ≤ length r
   pub there : place < length (committersOf 16 0 (contentAt r))
 
--- by bytes from the record's first
+-- a place in the content as a place in the record
 abbrev pub fromFirst : Stretch → Stretch
 fromFirst s = record { number = s .number; at = 14 + s .at; length = s .length }
 
--- the same in the record
+-- its number, and where its name stands in the record
 abbrev pub stretchOf : ℕ → Settings → Stretch
 stretchOf i s = record { number = committerAt s i .number; at = nameAt i s; length = length (committerAt s i .name) }
 

@@ -11,14 +11,13 @@ use borrow.Author.Tests.{lt-ltb}
 use Rattle.model.specs.declared.Refusal.the-variants.{NothingThere, ShortBuffer}
 use Rattle.model.specs.Outcome.{Outcome}
 use Rattle.model.specs.Outcome.Outcome.{refuse, pass}
-use Rattle.model.specs.Numbers.{Answer, answer, refusalAnswer}
+use Rattle.model.specs.Numbers.{answer, refusalAnswer}
 use Rattle.settings.specs.Format.{Settings, read}
 use Rattle.settings.specs.Lent.{committerAt, nameAt, writeGiven, fitted, afterwards}
 use Rattle.settings.proofs.Stated.{name-stands}
-use Rattle.answers.specs.declared.Verdict.{Verdict}
 use Rattle.answers.specs.Answers.{recordOf}
 use Rattle.calls.specs.Call.{Out, untouched, Did}
-use Rattle.calls.proofs.Exports.{refusal-number, only}
+use Rattle.calls.proofs.Exports.{one-verdict, refusal-number, only}
 use Rattle.records.specs.Record.{RecordCall, Kept, committerAnswer, writeAnswer, kept, keptOut, recordCall, Keeps, stretch, committerPart}
 use Rattle.records.specs.Record.RecordCall.{readSettings, readCommitter, writeSettings}
 use Rattle.records.specs.Stated.{RecordUnchanged, WriteKeeps, KeepsDetermined, PartIsName}
@@ -74,13 +73,8 @@ write-keeps v given b a a′ b′ d = size (eqb (length a) 128) (d .code) (d .an
     size false e f g = absurd (omega arith)
     size true e f g = go o refl e f g
 
--- a verdict is its answer
-verdict : Answer → Verdict
-verdict x = record { number = x .number; places = x .places }
-
 pub keeps-determined : KeepsDetermined
-unfolding verdict
-keeps-determined k v v′ b₁ b₂ d e = (ap verdict (d .answer ∙ sym (e .answer)), d .buffer ∙ sym (e .buffer))
+keeps-determined k v v′ b₁ b₂ d e = (one-verdict v v′ (d .answer ∙ sym (e .answer)), d .buffer ∙ sym (e .buffer))
 
 pub part-is-name : PartIsName
 unfolding committerPart kept

@@ -20,7 +20,7 @@ use Rattle.settings.specs.Lent.{committersGiven, settingsGiven}
 use Rattle.settings.proofs.Splits.{to-end}
 use Rattle.settings.proofs.Committers.{Fine, fine, listed-length}
 use Rattle.scribe.specs.Writing.{givenRising, givenWritable, committersFrom, contentFrom, contentLength, numbersFit}
-use Rattle.scribe.proofs.Tests.{writable-is}
+use Rattle.scribe.proofs.Tests.{writable-by}
 
 -- ---- one committer more
 
@@ -275,7 +275,7 @@ module _ (v log mode site : ℕ) where
       → givenWritable v (settingsGiven log mode site o)
       ≡ (numbersFit v log mode site && (leb (length (Option·getD o [])) 16 && givenRising 0 o))
   given-writable none = sym (and-false (numbersFit v log mode site))
-  given-writable (some cs) = writable-is v log mode site cs
+  given-writable (some cs) = writable-by v log mode site cs
 
   module _ (n l s : List ℕ) where
     -- the numbers are counted for the committers

@@ -98,9 +98,9 @@ module _ (v log mode site : ℕ) where
   regroup true true true true true true = refl
 
   -- the tests that the code makes, in its order
-  pub writable-is : (cs : List Committer)
+  pub writable-by : (cs : List Committer)
       → writable v (record { log = log; mode = mode; committers = cs; site = site })
       ≡ (numbersFit v log mode site && (leb (length cs) 16 && rising 0 cs))
   unfolding writable inBounds numbersFit
-  writable-is cs =
+  writable-by cs =
       regroup (within 0 2 log) (within 1 3 mode) (leb (length cs) 16) (rising 0 cs) (within 0 65535 site) (hasSite v || eqb site 0)

@@ -18,9 +18,10 @@ use Rattle.word.proofs.Tests.{both-true, true-both, every-at}
 use Rattle.model.specs.Basic.{collect}
 use Rattle.model.specs.EditList.{_>>=_}
 use Rattle.model.proofs.Binds.{none-some, some-is, some-then}
+use Rattle.word.proofs.Fields.{at-seam}
 use Rattle.settings.specs.Format.{Committer, Named, within, follows, rising, listed, split, followed, committerIn, committersIn}
 use Rattle.settings.specs.Lent.{nameIn, noCommitter}
-use Rattle.settings.proofs.Splits.{cut-seam, split-in, Pieces, split-back}
+use Rattle.settings.proofs.Splits.{split-in, Pieces, split-back}
 
 -- ---- one committer
 
@@ -187,7 +188,7 @@ name-in (c ∷ cs) zero rest h =
     let p : List ℕ = be 2 (c .number) ++ be 1 (length (c .name)) in
     let e : length p ≡ 3 = simp (length-append, length-be) (omega arith) in
     let f : (listed c ++ collect listed cs) ++ rest ≡ p ++ (c .name ++ (collect listed cs ++ rest)) = simp append-assoc in
-    ap (cut 3 (length (c .name))) f ∙ cut-seam p (c .name) _ 3 _ e refl
+    ap (cut 3 (length (c .name))) f ∙ at-seam p (c .name) _ 3 _ e refl
 name-in (c ∷ cs) (suc i) rest h =
     let k : ℕ = length (getD cs i noCommitter .name) in
     ap (cut (length (listed c) + nameIn i cs) k) (append-assoc (listed c) (collect listed cs) rest)

@@ -23,10 +23,6 @@ pub passed : {A : Type 0} (t : Bool) (m : Outcome A) (x : Refusal) (a : A)
 passed true m x a e = (refl, e)
 passed false m x a e = absurd (refuse-pass e)
 
--- the middle one of three pieces is that stretch
-pub cut-seam : (p q r : List ℕ) (a k : ℕ) → length p ≡ a → length q ≡ k → cut a k (p ++ (q ++ r)) ≡ q
-cut-seam p q r a k e f = ap (take k) (drop-at p (q ++ r) a e) ∙ take-at q r k f
-
 -- all that stands behind the first b: what `&s[b..]` lends
 pub to-end : (b : ℕ) (r : List ℕ) → cut b (length r - b) r ≡ drop b r
 to-end b r = let e : length (drop b r) ≡ length r - b = length-drop b r in take-all (length r - b) (drop b r) (omega arith)

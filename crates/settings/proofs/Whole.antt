@@ -18,11 +18,12 @@ use Rattle.model.specs.declared.Refusal.the-variants.{MalformedRecord, UnknownV
 use Rattle.model.specs.Basic.{every, collect}
 use Rattle.model.specs.Outcome.Outcome.{pass}
 use Rattle.model.proofs.Binds.{none-some, some-is, some-then, cond-some, pass-is, refuse-pass, orRefuse-inv}
+use Rattle.word.proofs.Fields.{at-seam}
 use Rattle.settings.specs.Format.{Committer, Settings, within, rising, inBounds, isVersion, hasSite, entry, listed}
 use Rattle.settings.specs.Format.{siteEntry, entries, form, writable, write, split, entryIn, numberIn, committersIn, ended, siteIn}
 use Rattle.settings.specs.Format.{entriesIn, settingsIn, read}
 use Rattle.settings.specs.Lent.{committerAt, nameAt, nameIn}
-use Rattle.settings.proofs.Splits.{passed, cut-seam, split-in, Pieces, split-back}
+use Rattle.settings.proofs.Splits.{passed, split-in, Pieces, split-back}
 use Rattle.settings.proofs.Entries.{entry-length, entry-bytes, entry-in, Entered, entry-back, number-in, Numbered, number-back}
 use Rattle.settings.proofs.Committers.{committers-in, Listed, committers-back, all-short, all-bytes, name-in}
 
@@ -319,7 +320,7 @@ module _ (v : ℕ) (s : Settings) where
   size-is w =
       let n : ℕ = length (3 ∷ content s) in
       let small : n < 256 ^ 2 = omega (arith, committers-short v s w) in
-      ap val (ap (cut 11 2) at-size ∙ cut-seam (heading v s) (size s) _ 11 2 heading-length (length-be 2 n))
+      ap val (ap (cut 11 2) at-size ∙ at-seam (heading v s) (size s) _ 11 2 heading-length (length-be 2 n))
       ∙ val-be 2 n small
       ∙ omega arith
 
@@ -330,7 +331,7 @@ module _ (v : ℕ) (s : Settings) where
       let e : val (cut 11 2 (form v s)) ≡ 1 + k = size-is w in
       let f : val (cut 11 2 (form v s)) - 1 ≡ k = omega arith in
       let c : cut 14 k (form v s) ≡ content s =
-      ap (cut 14 k) at-content ∙ cut-seam (before v s) _ (siteEntry (hasSite v) (s .site)) 14 k before-length refl in (
+      ap (cut 14 k) at-content ∙ at-seam (before v s) _ (siteEntry (hasSite v) (s .site)) 14 k before-length refl in (
         omega arith,
         omega (arith, form-sum v s),
         ap (λ (n : ℕ). committersIn 16 0 (cut 14 n (form v s))) f

@@ -108,7 +108,7 @@ entryIn tag r = do
   rest ← split (val (size .front)) (size .behind)
   tagged tag (rest .front) (rest .behind)
 
--- an entry whose content is a number of w bytes, within bounds
+-- an entry whose content is a number of w bytes, from the least to the most
 pub record Number : Type 0 where
   pub value : ℕ
   pub behind : List ℕ
@@ -177,7 +177,7 @@ settingsIn v r = do
   size ← split 2 r
   framed v size
 
--- 23 an empty record; 24 a version that the reader does not know; then 23
+-- 23 an empty record; 24 a version that the reader does not know; then 23. What a slice holds are bytes; on other numbers this is total too
 abbrev pub readAs : ℕ → List ℕ → Outcome Settings
 readAs known [] = refuse MalformedRecord
 readAs known (v ∷ r) =

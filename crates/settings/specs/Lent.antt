@@ -20,13 +20,13 @@ noCommitter = record { number = 0; name = [] }
 abbrev pub committerAt : Settings → ℕ → Committer
 committerAt s i = getD (s .committers) i noCommitter
 
--- where the name of the i-th committer stands in the content, and in the record
+-- where the name of the i-th committer stands in the content, behind its number and its length; past the last nothing reads
 unfoldable pub nameIn : ℕ → List Committer → ℕ
 nameIn i [] = 3
 nameIn zero (c ∷ cs) = 3
 nameIn (suc i) (c ∷ cs) = length (listed c) + nameIn i cs
 
--- the content of the committers' entry begins at byte 14
+-- and in the record, where the content of the committers' entry begins at byte 14
 abbrev pub nameAt : ℕ → Settings → ℕ
 nameAt i s = 14 + nameIn i (s .committers)
 

@@ -37,7 +37,8 @@ bytes-fields [] xs = noBytes
 bytes-fields (w ∷ ws) [] = bytes-append (bytes-be w 0) (bytes-fields ws [])
 bytes-fields (w ∷ ws) (x ∷ xs) = bytes-append (bytes-be w x) (bytes-fields ws xs)
 
-at-seam : (p q r : List ℕ) (a w : ℕ) → length p ≡ a → length q ≡ w → cut a w (p ++ (q ++ r)) ≡ q
+-- the middle one of three pieces is that stretch
+pub at-seam : (p q r : List ℕ) (a w : ℕ) → length p ≡ a → length q ≡ w → cut a w (p ++ (q ++ r)) ≡ q
 at-seam p q r a w e f =
     rw (← e, drop-append-seam, take-append-le w q r (omega arith)) (take-all w q (omega arith))
 
