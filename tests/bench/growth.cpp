@@ -4,9 +4,6 @@
 #include "sites.h"
 #include "trial.h"
 
-// What reads least beside the test: a row that no region has.
-static const Call LOOK = call::read_row(MOST_ROWS);
-
 // A region, and how much it has of what grows.
 struct Step {
     size_t size;

@@ -22,5 +22,7 @@ int main(int count, char **words)
         print_git();
     if (is_asked(count, words, "growth"))
         print_growth();
+    if (is_asked(count, words, "lookups"))
+        print_lookups();
     return 0;
 }

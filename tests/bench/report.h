@@ -20,3 +20,6 @@ void print_git();
 
 // How the region's test grows with names, rows and lines.
 void print_growth();
+
+// Adding names that begin alike, and names that end alike.
+void print_lookups();

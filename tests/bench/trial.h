@@ -13,6 +13,9 @@ struct Trial {
     std::vector<Call> calls; // mostly one; made one after the other
 };
 
+// What reads least beside the test: a row that no region has.
+inline const Call LOOK = call::read_row(MOST_ROWS);
+
 // What was measured. The time that restoring the region takes is taken off.
 struct Result {
     uint32_t number = 0; // of the last call

@@ -133,6 +133,47 @@ static void test_full()
     world.gives(call::start(0), 0);
 }
 
+// Each of these names, no two of them the same, gets the next number, and that number again when it comes again.
+static void gives_numbers(const std::vector<std::string> &names)
+{
+    World world;
+    for (int time = 0; time < 2; time++)
+        for (size_t n = 0; n < names.size(); n++)
+            world.gives(call::add_name(names[n]), 0, {n});
+}
+
+// Names of the greatest length that differ in one byte, and in two, wherever these stand.
+static void test_one_byte_apart()
+{
+    std::vector<std::string> names = {many(64, 'A')};
+    for (size_t at = 0; at < 64; at++) {
+        names.push_back(many(64, 'A'));
+        names.back()[at] = 'B';
+    }
+    gives_numbers(names);
+}
+
+// Every name of A and B up to six bytes: the beginnings and the ends of each other, and each set of places in which two can differ.
+static void test_alike()
+{
+    std::vector<std::string> names;
+    for (size_t size = 1; size <= 6; size++)
+        for (size_t bits = 0; bits < size_t(1) << size; bits++) {
+            names.push_back(many(size, 'A'));
+            for (size_t at = 0; at < size; at++)
+                if (bits >> at & 1)
+                    names.back()[at] = 'B';
+        }
+    gives_numbers(names);
+}
+
+// The region's test tells most names apart by their marks (crates/rules), and these pairs have one mark each: their bytes are compared.
+static void test_one_mark()
+{
+    gives_numbers({"refs/heads/xijbinl", "refs/heads/xjfheol", "refs/heads/jcmmnnz", "refs/heads/ihcwioz", "refs/heads/gujimje",
+                   "refs/heads/ionmgle"});
+}
+
 // A transaction does not stand in the way of a new name.
 static void test_while_prepared()
 {
@@ -150,5 +191,8 @@ void test_names()
     test_every_byte();
     test_numbers();
     test_full();
+    test_one_byte_apart();
+    test_alike();
+    test_one_mark();
     test_while_prepared();
 }

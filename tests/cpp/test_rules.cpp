@@ -130,6 +130,11 @@ static void test_name_rules()
     bad("two names alike", busy(), [](Store &s) { s.entries[4].name = "HEAD"; });
     bad("two names alike", busy(), [](Store &s) { s.entries[3].name = "refs/heads/b./c"; });
     good("one name begins the other", busy(), [](Store &s) { s.entries[4].name = "HEADS"; });
+    good("one name ends the other", busy(), [](Store &s) { s.entries[4].name = "AHEAD"; });
+    const auto longest = [](Store &s) { s.entries[0].name = s.entries[1].name = std::string(64, 'A'); };
+    bad("two names alike, of 64 bytes", plain(2), longest);
+    for (size_t at : {0, 31, 63})
+        good("two names of 64 bytes, of which one differs", plain(2), [=](Store &s) { longest(s), s.entries[1].name[at] = 'B'; });
     with_bytes(false, "a length that is too small", busy(), {{NAMES.slot(0), 3}});
     with_bytes(false, "a length that is too large", busy(), {{NAMES.slot(0), 5}});
     with_bytes(false, "a length of 0", busy(), {{NAMES.slot(0), 0}});

@@ -284,6 +284,20 @@ fn put_parent(notes: &mut Notes, parent: u64, returns: u64) {
     reads(notes, returns);
 }
 
+// ---- names that are alike
+
+// One byte apart, at the front and at the back, and one that ends with another. The last two have one mark, so that the region's test
+// compares their bytes.
+fn alike_names(line: &mut Line, notes: &mut Notes) {
+    start_head(line, notes);
+    add(line, 16, b"READ", notes, 0, 1);
+    add(line, 32, b"HEAT", notes, 0, 2);
+    add(line, 48, b"AHEAD", notes, 0, 3);
+    add(line, 64, b"refs/heads/xijbinl", notes, 0, 4);
+    add(line, 96, b"refs/heads/xjfheol", notes, 0, 5);
+    reads(notes, 0);
+}
+
 // ---- 256 names
 
 fn letter(i: u64) -> u8 {
@@ -344,6 +358,7 @@ fn regions(stage: u64, line: &mut Line, region: &Region, notes: &mut Notes) {
         1039 => add_chain(line, notes),
         1040 => prepare_chain(notes),
         1041 => ancestors(region, notes),
+        1042 => alike_names(line, notes),
         _ => start(notes, 0),
     }
 }

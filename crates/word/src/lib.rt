@@ -97,19 +97,19 @@ pub fn put_zeros(s: &mut [u8])
     }
 }
 
-// The two are as long, and byte by byte the same.
+// The two are as long, and byte by byte the same. Most names begin alike, so the bytes are compared from the back.
 pub fn same(a: &[u8], b: &[u8]) -> bool
     ensures { λ r. ⌜ r ≡ sameList (now (a .entry)) (now (b .entry)) ⌝ }
 {
     if a.len() != b.len() {
         return false;
     }
-    let mut i = 0;
-    while i < a.len() {
-        if a[i] != b[i] {
+    let mut left = a.len();
+    while 0 < left {
+        left -= 1;
+        if a[left] != b[left] {
             return false;
         }
-        i += 1;
     }
     true
 }

@@ -1,50 +1,62 @@
--- `word::same` meets its contract: what is left of the two is the same exactly where the two are. Assumes nothing.
-use Prim.Native.Nat.{ℕ, _+_, _-_, _<_, _≤_}
+-- `word::same` meets its contract: past the bytes that are left, the two are the same. Assumes nothing.
+use Prim.Native.Nat.{ℕ, zero, suc, _-_, _≤_}
 use mathlib.Core.Path.{_≡_, refl, sym, ap, ap₂, _∙_}
-use mathlib.Core.Bool.{Bool, true, false, _&&_}
-use mathlib.Core.List.{List}
-use native.Mathlib.Numerals.{add-one}
+use mathlib.Core.Bool.{Bool, true, false}
+use mathlib.Core.List.{List, _∷_}
 use native.Mathlib.Omega.{arith}
-use lib.ListN.{length, drop, getD, drop-of-length-le}
-use lib.Seq.{drop-cons}
-use lib.Dec.{eqb}
-use borrow.Author.Tests.{eq-eqb, ne-eqb}
+use lib.ListN.{length, drop, getD}
+use lib.Seq.{drop-cons, drop-length}
 use Rattle.word.specs.Tests.{sameList}
-use Rattle.word.proofs.Tests.{sameList-true}
+use Rattle.word.proofs.Tests.{sameList-true, sameList-refl}
 use Rattle.word.proofs.same.Statement.{statement}
 use Rattle.word.proofs.same.Tie as tie
 
 abbrev Inv-loop : tie.InvT-loop
-Inv-loop a b i₀ i = (i ≤ length a) × (sameList (drop i a) (drop i b) ≡ sameList a b)
+Inv-loop a b left₀ left = (left ≤ length a) × (drop left a ≡ drop left b)
 
 abbrev μ-loop : tie.MeasureT-loop
-μ-loop a b i₀ i = length a - i
+μ-loop a b left₀ left = left
 
-longer : (a b : List ℕ) → (length a ≡ length b → ⊥) → false ≡ sameList a b
-longer a b h = go (sameList a b) refl
-  where
-    go : (t : Bool) → sameList a b ≡ t → false ≡ sameList a b
-    go true e = absurd (h (ap length (sameList-true a b e)))
-    go false e = sym e
+module _ (a b : List ℕ) where
+  -- whatever tells the two apart, their length or the byte at a place
+  apart : (f : List ℕ → ℕ) → (f a ≡ f b → ⊥) → false ≡ sameList a b
+  apart f h = go (sameList a b) refl
+    where
+      go : (t : Bool) → sameList a b ≡ t → false ≡ sameList a b
+      go true e = absurd (h (ap f (sameList-true a b e)))
+      go false e = sym e
 
-module _ (a b : List ℕ) (i : ℕ) (l : length a ≡ length b) (e : sameList (drop i a) (drop i b) ≡ sameList a b) where
-  step : i < length a → (eqb (getD a i 0) (getD b i 0) && sameList (drop (i + 1) a) (drop (i + 1) b)) ≡ sameList a b
-  step h = rw add-one (sym (ap₂ sameList (drop-cons a i 0 h) (drop-cons b i 0 (omega arith))) ∙ e)
+  longer : (length a ≡ length b → ⊥) → false ≡ sameList a b
+  longer = apart length
 
-  stop : i < length a → (getD a i 0 ≡ getD b i 0 → ⊥) → false ≡ sameList a b
-  stop h p = rw (ne-eqb _ _ p) at (step h)
+  start : length a ≡ length b → drop (length a) a ≡ drop (length a) b
+  start l = drop-length a ∙ sym (rw (sym l) at (drop-length b))
 
-  turn : i < length a → getD a i 0 ≡ getD b i 0 → sameList (drop (i + 1) a) (drop (i + 1) b) ≡ sameList a b
-  turn h p = rw (eq-eqb _ _ p) at (step h)
+  -- the bound is what shows the place to a search
+  stop : (i : ℕ) → i ≤ length a → (getD a (i - 1) 0 ≡ getD b (i - 1) 0 → ⊥) → false ≡ sameList a b
+  stop i h = apart (λ s. getD s (i - 1) 0)
 
-  end : length a ≤ i → true ≡ sameList a b
-  end h = sym (ap₂ sameList (drop-of-length-le a h) (drop-of-length-le b (rw l at h))) ∙ e
+  turn : (i : ℕ) → length a ≡ length b → i ≤ length a → drop i a ≡ drop i b → getD a (i - 1) 0 ≡ getD b (i - 1) 0
+      → drop (i - 1) a ≡ drop (i - 1) b
+  turn zero l h e p = e
+  turn (suc j) l h e p =
+      let k : suc j - 1 ≡ j = omega arith in
+      let q : getD a j 0 ≡ getD b j 0 = rw k at p in
+      rw k (drop-cons a j 0 h ∙ ap₂ (λ (n : ℕ) (s : List ℕ). n ∷ s) q e ∙ sym (drop-cons b j 0 (omega arith)))
+
+  end : (i : ℕ) → i ≤ 0 → drop i a ≡ drop i b → true ≡ sameList a b
+  end i h e =
+      let z : i ≡ 0 = omega arith in
+      sym (sameList-refl a) ∙ ap (sameList a) (rw z at e)
 
 returns : tie.Need-returns Inv-loop μ-loop
 returns c = search longer
 
 loop-holds : tie.Need-loop-holds Inv-loop μ-loop
-loop-holds c = (omega arith, refl)
+loop-holds c = (omega arith, search start)
+
+sub-left : tie.Need-sub-left Inv-loop μ-loop
+sub-left c = omega arith
 
 shared-slice-read-if2 : tie.Need-shared-slice-read-if2 Inv-loop μ-loop
 shared-slice-read-if2 c = omega arith
@@ -54,9 +66,6 @@ shared-slice-read-if2-2 c = omega arith
 
 returns-2 : tie.Need-returns-2 Inv-loop μ-loop
 returns-2 c = search stop
-
-add-i : tie.Need-add-i Inv-loop μ-loop
-add-i c = omega arith
 
 loop-less : tie.Need-loop-less Inv-loop μ-loop
 loop-less c = omega arith
@@ -75,10 +84,10 @@ same-spec =
     μ-loop
     returns
     loop-holds
+    sub-left
     shared-slice-read-if2
     shared-slice-read-if2-2
     returns-2
-    add-i
     loop-less
     loop-again
     returns-3)
