@@ -114,7 +114,7 @@ static void print_kind(const std::string &what, const std::vector<std::string> &
         if (all.size() < names.size())
             site.done(all.back());
     }
-    print_trial(what, {"add_name, all 256 of them", empty, all}, lookups(names, 0));
+    print_trial(what, {"add_name, all 256 together", empty, all}, lookups(names, 0));
     print_trial(what, {"add_name, the last", site.region(), {all.back()}}, lookups(names, names.size() - 1));
     print_trial(what, {"the test alone, before the last", site.region(), {LOOK}}, {});
 }
