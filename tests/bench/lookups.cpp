@@ -53,7 +53,7 @@ template <class Iterator> static size_t until_differs(Iterator a, Iterator end, 
     return size_t(differs - a) + (differs == end ? 0 : 1);
 }
 
-// Names of other lengths are told apart by these.
+// Names of different lengths are told apart by their lengths, and no byte is compared.
 static void add_pair(Count &count, const std::string &a, const std::string &b)
 {
     count.pairs++;
