@@ -70,6 +70,8 @@ impl Answer {
 
     pub const UNKNOWN_VERSION: u32 = 24;
 
+    pub const NAME_CONFLICT: u32 = 25;
+
     pub const SHORT_BUFFER: u32 = 33;
 }
 
@@ -168,6 +170,7 @@ impl Verdict {
             Refusal::NothingThere => Verdict::bare(Answer::NOTHING_THERE),
             Refusal::MalformedRecord => Verdict::bare(Answer::MALFORMED_RECORD),
             Refusal::UnknownVersion => Verdict::bare(Answer::UNKNOWN_VERSION),
+            Refusal::NameConflict(name) => named(Answer::NAME_CONFLICT, name),
             Refusal::ShortBuffer => Verdict::bare(Answer::SHORT_BUFFER),
         }
     }

@@ -1,4 +1,4 @@
-// A region that is laid out so, but whose store breaks a rule: which, and where. The tests of the five groups decide; what is said
+// A region that is laid out so, but whose store breaks a rule: which, and where. The tests of the six groups decide; what is said
 // behind a group's heading is where it was found.
 ghost use Prim.Native.Nat.{_<_};
 ghost use lib.ListN.{length};
@@ -324,6 +324,68 @@ fn of_locks(region: &[u8])
     }
 }
 
+// ---- names beneath names
+
+fn nested_name(region: &[u8], n: NameNumber)
+    requires { ⌜ Laid (now region) ⌝ }
+{
+    if beneath::is_loose(region, n) {
+        let ok = !beneath::loose_above(region, n);
+        name_fault(ok, n, b" has a loose value beneath another's\n");
+    }
+}
+
+fn nested_names(region: &[u8])
+    requires { ⌜ Laid (now region) ⌝ }
+{
+    let count = region::count_names(region);
+    let mut n: usize = 0;
+    while n < count {
+        nested_name(region, NameNumber::at(n));
+        n += 1;
+    }
+}
+
+fn nested_row(region: &[u8], i: usize)
+    requires { ⌜ Laid (now region) ⌝ }
+    requires { ⌜ i < length (rowsIn (view (now region) .prepared)) ⌝ }
+{
+    let row = region::row_at(region, i);
+    let update = row.update;
+    let change = update.change;
+    let ok = !beneath::conflicts(region, region::mode(region), i, change.existing());
+    row_fault(ok, i, b" is on a name that another is in the way of\n");
+}
+
+fn nested_rows(region: &[u8])
+    requires { ⌜ Laid (now region) ⌝ }
+{
+    let rows = region::count_rows(region);
+    let mut i: usize = 0;
+    while i < rows {
+        nested_row(region, i);
+        i += 1;
+    }
+}
+
+fn of_nests(region: &[u8])
+    requires { ⌜ Laid (now region) ⌝ }
+{
+    say::text(b"rules of names beneath names are broken\n");
+    nested_names(region);
+    nested_rows(region);
+}
+
+// Asked only where every row's name is registered.
+fn nests_fine(region: &[u8]) -> bool
+    requires { ⌜ Laid (now region) ⌝ }
+{
+    if !rules::rows_fine(region) {
+        return true;
+    }
+    nests::nests_fine(region)
+}
+
 // ---- all groups
 
 fn of_room(region: &[u8])
@@ -354,5 +416,8 @@ pub fn all(region: &[u8])
     }
     if !kept::room_fine(region) {
         of_room(region);
+    }
+    if !nests_fine(region) {
+        of_nests(region);
     }
 }

@@ -11,7 +11,7 @@ use borrow.Author.Tests.{eq-eqb}
 use Rattle.model.specs.declared.WriteReflog.{WriteReflog}
 use Rattle.model.specs.declared.WriteReflog.the-variants.{Disable}
 use Rattle.model.specs.declared.Refusal.{Refusal}
-use Rattle.model.specs.declared.Refusal.the-variants.{BadRegion, Malformed, NotRegistered, ReferenceCycle, TooManyRows, MultipleEdits, PackedTransactionAcquire, LockAcquire, DeleteReferenceMustExist, MustNotExist, MustExist, ReferenceOutOfDate, DeleteMustNotExist, LogFull, WrongState, BadName, NamesFull, WrongLock, BadLoad, NothingThere, MalformedRecord, UnknownVersion, ShortBuffer}
+use Rattle.model.specs.declared.Refusal.the-variants.{BadRegion, Malformed, NotRegistered, ReferenceCycle, TooManyRows, MultipleEdits, PackedTransactionAcquire, LockAcquire, DeleteReferenceMustExist, MustNotExist, MustExist, ReferenceOutOfDate, DeleteMustNotExist, LogFull, WrongState, BadName, NamesFull, WrongLock, BadLoad, NothingThere, MalformedRecord, UnknownVersion, NameConflict, ShortBuffer}
 use Rattle.model.specs.Store.{Store, empty}
 use Rattle.model.specs.Commit.Stop.{noCommitter, usedUp}
 use Rattle.model.specs.Outcome.{Outcome, orRefuse}
@@ -229,6 +229,7 @@ refusal-number BadLoad e = omega arith
 refusal-number NothingThere e = omega arith
 refusal-number MalformedRecord e = omega arith
 refusal-number UnknownVersion e = omega arith
+refusal-number (NameConflict n) e = omega arith
 refusal-number ShortBuffer e = omega arith
 
 abbrev Held : List ℕ → Type 0

@@ -8,13 +8,13 @@ use lib.ListN.{getD}
 use borrow.Author.Tests.{not-true, not-false}
 use Rattle.word.proofs.Tests.{every-false}
 use Rattle.model.specs.Store.{Store}
-use Rattle.model.specs.Fine.{fineNames, fineLines, fineRows, fineLocks, fineRoom, fine}
+use Rattle.model.specs.Fine.{fineNames, fineLines, fineRows, fineLocks, fineRoom, fineNests, fine}
 use Rattle.region.specs.Region.{view, layout, good, Laid}
 use Rattle.region.proofs.Decode.{laid}
 
 -- the groups in the order of `fine`
 abbrev groups : Store → List Bool
-groups s = fineNames s ∷ fineLines s ∷ fineRows s ∷ fineLocks s ∷ fineRoom s ∷ []
+groups s = fineNames s ∷ fineLines s ∷ fineRows s ∷ fineLocks s ∷ fineRoom s ∷ fineNests s ∷ []
 
 module _ (s : Store) (b : Bool) where
   group-fails : (i : ℕ) → b ≡ getD (groups s) i true → not b ≡ true → false ≡ fine s
@@ -33,11 +33,14 @@ module _ (s : Store) (b : Bool) where
   pub locks-fail : b ≡ fineLocks s → not b ≡ true → false ≡ fine s
   locks-fail e n = group-fails 3 e n
 
-pub room-decides : (s : Store) (a b c d z : Bool) → a ≡ fineNames s → not a ≡ false → b ≡ fineLines s → not b ≡ false → c ≡ fineRows s → not c ≡ false
-    → d ≡ fineLocks s → not d ≡ false → z ≡ fineRoom s → z ≡ fine s
+  pub room-fails : b ≡ fineRoom s → not b ≡ true → false ≡ fine s
+  room-fails e n = group-fails 4 e n
+
+pub nests-decide : (s : Store) (a b c d g z : Bool) → a ≡ fineNames s → not a ≡ false → b ≡ fineLines s → not b ≡ false → c ≡ fineRows s → not c ≡ false
+    → d ≡ fineLocks s → not d ≡ false → g ≡ fineRoom s → not g ≡ false → z ≡ fineNests s → z ≡ fine s
 unfolding fine
-room-decides s a b c d z ea na eb nb ec nc ed nd ez =
-    rw (sym ea ∙ not-false a na, sym eb ∙ not-false b nb, sym ec ∙ not-false c nc, sym ed ∙ not-false d nd, ← ez) (sym (and-true z))
+nests-decide s a b c d g z ea na eb nb ec nc ed nd eg ng ez =
+    rw (sym ea ∙ not-false a na, sym eb ∙ not-false b nb, sym ec ∙ not-false c nc, sym ed ∙ not-false d nd, sym eg ∙ not-false g ng, ← ez) (sym (and-true z))
 
 module _ (r : List ℕ) (b : Bool) (e : b ≡ layout r) where
   pub not-laid : not b ≡ true → false ≡ good r

@@ -19,7 +19,10 @@ pub fn is_fine(region: &[u8]) -> bool
     if !kept::locks_fine(region) {
         return false;
     }
-    kept::room_fine(region)
+    if !kept::room_fine(region) {
+        return false;
+    }
+    nests::nests_fine(region)
 }
 
 // Whether a region is the image of a store that obeys the rules.

@@ -6,7 +6,7 @@ use mathlib.Core.Option.{none, some}
 use Prim.Native.Nat.{ℕ, zero, suc, _<_, _≤_, _^_}
 use native.Mathlib.Omega.{arith}
 use lib.Dec.{eqb, ltb}
-use borrow.Author.Tests.{lt-leb, lt-ltb, ltb-true, ne-eqb, not-false}
+use borrow.Author.Tests.{lt-leb, lt-ltb, ltb-true, ne-eqb, not-true, not-false}
 use mir.Val.{Fits}
 use mir.Syntax.{w64}
 use Rattle.target.specs.declared.NameNumber.{NameNumber}
@@ -21,13 +21,14 @@ use Rattle.model.specs.declared.Packed.{Packed}
 use Rattle.model.specs.declared.Packed.the-variants as packed
 use Rattle.model.specs.declared.Refusal.the-variants.{NotRegistered, WrongState, BadLoad}
 use Rattle.model.specs.Names.{packable}
-use Rattle.model.specs.Store.{Store, count, entryAt, entryOf, isPrepared, isId, putLoose, putPacked, changeEntry}
+use Rattle.model.specs.Store.{Store, count, entryAt, entryOf, isPrepared, isId, isNone, putLoose, putPacked, changeEntry}
+use Rattle.model.specs.Beneath.{looseAbove, looseBeneath}
 use Rattle.model.specs.Outcome.Outcome.{refuse, pass}
 use Rattle.model.specs.Reply.{Reply, _>>_, known, idle}
 use Rattle.model.specs.Reply.Call.{loadLoose, loadPacked}
 use Rattle.model.specs.Reply.Given.{nothing}
 use Rattle.model.specs.Calls.{step}
-use Rattle.model.specs.Load.{looseOf, looseLoaded, packedOf, packedLoaded}
+use Rattle.model.specs.Load.{looseOf, nests, looseLoaded, packedOf, packedLoaded}
 use Rattle.slots.specs.declared.OptionLoose.{OptionLoose}
 use Rattle.slots.specs.declared.OptionLoose.the-variants as optionLoose
 use Rattle.slots.specs.Values.{FitsLoose, FitsPacked, unbroken, looseFrom, looseOption}
@@ -67,6 +68,22 @@ module _ (s : Store) (kind x : ℕ) (o : OptionName) (h : kind ≡ 2) (e : o ≡
       go : (b : Bool) → ltb x (count s) ≡ b → false ≡ not (ltb x (count s))
       go true p = rw p
       go false p = absurd (let t : o ≡ NoName = rw p at e in let z : _≡_ {A = ℕ} 0 1 = cc in omega arith)
+
+-- ---- a value that would stand above another, or beneath one
+
+module _ (s : Store) (n : ℕ) (v : Loose) (a : Bool) (ea : a ≡ not (isNone v)) where
+  pub nests-none : not a ≡ true → false ≡ nests s n v
+  unfolding nests
+  nests-none t = rw (sym ea ∙ not-true a t)
+
+  module _ (t : not a ≡ false) (b : Bool) (eb : b ≡ looseAbove s n) where
+    pub nests-under : b ≡ true → true ≡ nests s n v
+    unfolding nests
+    nests-under u = rw (sym ea ∙ not-false a t, sym eb ∙ u)
+
+    pub nests-over : b ≡ false → (r : Bool) → r ≡ looseBeneath s n → r ≡ nests s n v
+    unfolding nests
+    nests-over u r er = rw (sym ea ∙ not-false a t, sym eb ∙ u) er
 
 -- ---- 15, then 3
 
@@ -170,13 +187,24 @@ module _ (n kind x : ℕ) (r : List ℕ) (ok : Bool) (is : ok ≡ good r) (y : n
               let none-there : none ≡ looseOf kind x = ap looseOption (sym p) ∙ same in
               says-no (loadLoose n kind x) r ok is refl y BadLoad w a (on _ ∙ (rw (sym es ∙ q, ← none-there)))
 
-          pub loose-done : (v : Loose) (r′ : List ℕ) → o ≡ optionLoose.Loose v → Became r′ (changeEntry (putLoose v) (at .0) (view r)) → answerBy w ≡ answer 0 []
-              → Replied w r r′ (replyTo (loadLoose n kind x) r)
-          unfolding step looseLoaded
-          loose-done v r′ p b a =
-              let there : some v ≡ looseOf kind x = ap looseOption (sym p) ∙ same in
-              says-done (loadLoose n kind x) r ok is refl y w (changeEntry (putLoose v) n (view r)) nothing r′ (on _ ∙ (rw (sym es ∙ q, ← there))) a
-              (subst (λ (at : NameNumber). Became r′ (changeEntry (putLoose v) (at .0) (view r))) as-named b)
+          module _ (v : Loose) (p : o ≡ optionLoose.Loose v) (z : Bool) (ez : z ≡ nests (view r) (at .0) v) where
+            there : some v ≡ looseOf kind x
+            there = ap looseOption (sym p) ∙ same
+
+            nests-is : (t : Bool) → z ≡ t → nests (view r) n v ≡ t
+            nests-is t e = ap (λ (at : NameNumber). nests (view r) (at .0) v) (sym as-named) ∙ sym ez ∙ e
+
+            pub loose-nested : z ≡ true → answerBy w ≡ answer 21 [] → Replied w r r (replyTo (loadLoose n kind x) r)
+            unfolding step looseLoaded refusalAnswer
+            loose-nested u a =
+                says-no (loadLoose n kind x) r ok is refl y BadLoad w a (on _ ∙ (rw (sym es ∙ q, ← there, nests-is true u)))
+
+            pub loose-done : (r′ : List ℕ) → z ≡ false → Became r′ (changeEntry (putLoose v) (at .0) (view r)) → answerBy w ≡ answer 0 []
+                → Replied w r r′ (replyTo (loadLoose n kind x) r)
+            unfolding step looseLoaded
+            loose-done r′ u b a =
+                says-done (loadLoose n kind x) r ok is refl y w (changeEntry (putLoose v) n (view r)) nothing r′ (on _ ∙ (rw (sym es ∙ q, ← there, nests-is false u))) a
+                (subst (λ (at : NameNumber). Became r′ (changeEntry (putLoose v) (at .0) (view r))) as-named b)
 
       module _ (name : List ℕ) (en : name ≡ entryOf (view r) at .name) (b : Bool) (eb : b ≡ packable name) (o : OptionPacked) (eo : packedOption o ≡ packedBy b kind x) where
         as-packed : packedOption o ≡ packedOf (entryAt (view r) n .name) kind x

@@ -3,13 +3,16 @@ ghost use mathlib.Core.Path.{_≡_};
 ghost use mathlib.Core.Bool.{_&&_, not};
 ghost use lib.Dec.{eqb, ltb};
 ghost use Rattle.model.specs.Store.{count};
+ghost use Rattle.model.specs.Load.{nests};
 ghost use Rattle.model.specs.Reply.Call.{loadLoose, loadPacked};
 ghost use Rattle.region.specs.Region.{view, Laid};
 ghost use Rattle.calls.specs.Call.{replyTo, Replied};
 use answers::Answer;
 use answers::Verdict;
+use model::Loose;
 use slots::OptionLoose;
 use steps::OptionPacked;
+use target::NameNumber;
 use target::OptionName;
 
 // A link to a number that is not registered.
@@ -24,6 +27,20 @@ fn is_stray_link(region: &[u8], kind: u64, number: u64) -> bool
         return true;
     };
     false
+}
+
+// A loose value, broken too, that would stand beneath another, or above one.
+fn is_nested(region: &[u8], name: NameNumber, value: Loose) -> bool
+    requires { ⌜ Laid (now region) ⌝ }
+    ensures { λ r. ⌜ r ≡ nests (view (now (region .entry))) (name .0) value ⌝ }
+{
+    if !beneath::is_value(value) {
+        return false;
+    }
+    if beneath::loose_above(region, name) {
+        return true;
+    }
+    beneath::loose_beneath(region, name)
 }
 
 pub fn load_loose(region: &mut [u8], name: u64, kind: u64, number: u64) -> Verdict
@@ -44,6 +61,9 @@ pub fn load_loose(region: &mut [u8], name: u64, kind: u64, number: u64) -> Verdi
     let OptionLoose::Loose(value) = slots::loose_from(kind, number) else {
         return Verdict::bare(Answer::BAD_LOAD);
     };
+    if is_nested(region, n, value) {
+        return Verdict::bare(Answer::BAD_LOAD);
+    }
     writers::put_loose_at(region, n, value);
     Verdict::bare(Answer::DONE)
 }

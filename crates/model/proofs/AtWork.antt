@@ -3,4 +3,5 @@ pub mod Cases
 pub mod Demand3
 pub mod Marked
 pub mod Open
+pub mod Nested
 pub mod Worked

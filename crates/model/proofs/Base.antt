@@ -20,6 +20,7 @@ use Rattle.model.specs.Fine.{Fine, fineLoose, finePacked, fineEntry, fin
 use Rattle.model.specs.Commit.{released}
 use Rattle.model.specs.Reached.{Sound}
 use Rattle.model.proofs.Release.{released-at, freed-not-ours}
+use Rattle.model.proofs.Beneath.{Alone, alone-is, is-alone, alone-moved}
 
 -- ---- an entry after a change
 
@@ -128,10 +129,10 @@ beq-false : (t : Bool) → Bool·beq t false ≡ true → t ≡ false
 beq-false true e = sym e
 beq-false false e = refl
 
-pub idle-fine : (s : Store) → Base s → s .prepared ≡ none → ((n : ℕ) → n < count s → isLock Ours (entryAt s n .lock) ≡ false)
+pub idle-fine : (s : Store) → Base s → Alone s → s .prepared ≡ none → ((n : ℕ) → n < count s → isLock Ours (entryAt s n .lock) ≡ false)
     → isLock Ours (s .packedLock) ≡ false → Fine s
 unfolding fineLock keptFor opens
-idle-fine s b e free packedFree =
+idle-fine s b a e free packedFree =
     record {
       few = b .few;
       entries = b .entries;
@@ -144,6 +145,8 @@ idle-fine s b e free packedFree =
       locks = λ n h. rw (e, free n h);
       packedLock = rw (e, packedFree);
       room = rw e (omega arith);
+      alone = is-alone s a;
+      clear = rw e λ i h. absurd (omega arith);
     }
 
 pub idle-free : (s : Store) → Fine s → s .prepared ≡ none
@@ -158,9 +161,9 @@ fine-sound s f e = record { fine = f; agree = λ i h. absurd (none-there i (rw e
     none-there : (i : ℕ) → i < 0 → ⊥
     none-there i h = omega arith
 
-pub idle-sound : (s : Store) → Base s → s .prepared ≡ none → ((n : ℕ) → n < count s → isLock Ours (entryAt s n .lock) ≡ false)
+pub idle-sound : (s : Store) → Base s → Alone s → s .prepared ≡ none → ((n : ℕ) → n < count s → isLock Ours (entryAt s n .lock) ≡ false)
     → isLock Ours (s .packedLock) ≡ false → Sound s
-idle-sound s b e free packedFree = fine-sound s (idle-fine s b e free packedFree) e
+idle-sound s b a e free packedFree = fine-sound s (idle-fine s b a e free packedFree) e
 
 -- ---- after commit or rollback
 
@@ -178,13 +181,17 @@ released-base s b =
     (b .short)
     (b .lines)
 
-pub released-fine : (s : Store) → Base s → Fine (released s)
+pub released-alone : (s : Store) → Alone s → Alone (released s)
 unfolding released
-released-fine s b =
-    idle-fine (released s) (released-base s b) refl
+released-alone s = alone-moved s (released s) (record { name = λ n h. rw released-at; loose = λ n h. rw released-at at h })
+
+pub released-fine : (s : Store) → Base s → Alone s → Fine (released s)
+unfolding released
+released-fine s b a =
+    idle-fine (released s) (released-base s b) (released-alone s a) refl
     (λ n h. rw released-at (freed-not-ours (entryAt s n .lock)))
     (freed-not-ours (s .packedLock))
 
-pub released-sound : (s : Store) → Base s → Sound (released s)
+pub released-sound : (s : Store) → Base s → Alone s → Sound (released s)
 unfolding released
-released-sound s b = fine-sound (released s) (released-fine s b) refl
+released-sound s b a = fine-sound (released s) (released-fine s b a) refl

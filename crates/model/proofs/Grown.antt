@@ -1,6 +1,6 @@
 -- Two stores that differ in locks and in new names alone: rows mean the same in both, and the rules go over from one to the other.
 -- Assumes nothing.
-use mathlib.Core.Path.{_≡_, refl, ap, _∙_}
+use mathlib.Core.Path.{_≡_, refl, sym, ap, _∙_, subst}
 use mathlib.Core.Bool.{Bool, true, false, _&&_, not}
 use mathlib.Core.List.{List}
 use mathlib.Core.Option.{Option}
@@ -31,6 +31,7 @@ use Rattle.model.specs.Reached.{Sound, agrees}
 use Rattle.model.proofs.Places.{any-same, any-none, any-alike, collect-same}
 use Rattle.model.proofs.FineEdit.{row-name}
 use Rattle.model.proofs.Base.{Base, both-imply, rest-imply}
+use Rattle.model.proofs.Beneath.{alone-is, is-alone, Clear, clear-is, is-clear, Fewer, alone-moved, clear-moved}
 
 -- ---- the stores
 
@@ -174,6 +175,14 @@ module _ (s t : Store) (f : Fine s) (a : Alike s t) (o : Held s t) where
       let n : ℕ = nameIn (rowAt (rowsIn (t .prepared)) i) .0 in
       rw (opening-alike, a .loose n, a .packed n, o .prepared) h
 
+  fewer : Fewer s t
+  fewer = record { name = a .name; loose = λ n h. rw (a .loose n) at h }
+
+  clear-alike : Clear t (modeIn (t .prepared)) (rowsIn (t .prepared))
+  clear-alike =
+      subst (λ (x : Option Prepared). Clear t (modeIn x) (rowsIn x)) (sym (o .prepared))
+      (clear-moved s t fewer (modeIn (s .prepared)) (rowsIn (s .prepared)) names (clear-is s (modeIn (s .prepared)) (rowsIn (s .prepared)) (f .clear)))
+
   pub alike-fine : Base t → Fine t
   unfolding fineLock
   alike-fine b =
@@ -189,6 +198,8 @@ module _ (s t : Store) (f : Fine s) (a : Alike s t) (o : Held s t) where
         locks = λ n h. rw (o .lock n, keptFor-alike n) (locks-all s f n);
         packedLock = rw (o .packedLock, opening-alike) (f .packedLock);
         room = rw (due-alike, a .lines) (f .room);
+        alone = is-alone t (alone-moved s t fewer (alone-is s (f .alone)));
+        clear = is-clear t (modeIn (t .prepared)) (rowsIn (t .prepared)) clear-alike;
       }
 
 pub alike-sound : (s t : Store) → Sound s → Alike s t → Held s t → Base t → Sound t

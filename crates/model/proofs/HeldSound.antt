@@ -1,5 +1,5 @@
 -- The store that preparing leaves is sound. Assumes nothing.
-use mathlib.Core.Path.{_≡_, refl, sym, ap, _∙_}
+use mathlib.Core.Path.{_≡_, refl, sym, ap, _∙_, subst}
 use mathlib.Core.Bool.{Bool, true, false, _&&_, _||_, cond, and-false, or-false, Bool·beq}
 use mathlib.Core.List.{List, [], _∷_, map}
 use mathlib.Core.Option.{Option, none, some}
@@ -22,6 +22,8 @@ use Rattle.model.specs.Fine.{fineEntry, keptFor, fineLock, Fine}
 use Rattle.model.specs.Prepare.{turnsFrom, holding, held}
 use Rattle.model.specs.Reached.{agrees, Sound}
 use Rattle.model.proofs.RowsFine.{RowsFine}
+use Rattle.model.proofs.FineEdit.{row-name}
+use Rattle.model.proofs.Beneath.{Fewer, alone-is, is-alone, alone-moved, Clear, is-clear, clear-moved}
 use Rattle.model.proofs.Alike.{alike-opens}
 use Rattle.model.proofs.Places.{any-same}
 use Rattle.model.proofs.SameRefs.{unlocked, SameRefs, same-count, same-at, same-opens, same-keepsLock, same-dueLines}
@@ -135,8 +137,14 @@ module _ (p : Prepared) (s t : Store) (h : Holds p s t) (f : Fine s) where
   unfolding fineLock
   holds-lock n k = true-beq _ _ (h .locks n k ∙ sym (kept n))
 
-  holds-fine : RowsFine (count s) (p .rows) → length (s .lines) + length (dueLines s (p .rows)) ≤ 1024 → Fine t
-  holds-fine g room = record {
+  fewer : Fewer s t
+  fewer = record {
+    name = λ n k. same-at t s (h .refs) (λ (x : Entry). x .name) (λ x. refl) n;
+    loose = λ n k. rw (same-at t s (h .refs) (λ (x : Entry). x .loose) (λ x. refl) n) at k;
+  }
+
+  holds-fine : RowsFine (count s) (p .rows) → Clear s (p .mode) (p .rows) → length (s .lines) + length (dueLines s (p .rows)) ≤ 1024 → Fine t
+  holds-fine g c room = record {
     few = rw counted (f .few);
     entries = λ n k. rw (counted, entry n) (f .entries n (rw counted at k));
     apart = λ n k i l. rw (name n, name i) (f .apart n (rw counted at k) i l);
@@ -148,8 +156,13 @@ module _ (p : Prepared) (s t : Store) (h : Holds p s t) (f : Fine s) where
     locks = λ n k. holds-lock n (rw counted at k);
     packedLock = true-beq _ _ (h .packedLock ∙ sym opened);
     room = rw (same-dueLines t s (h .refs) (rowsIn (t .prepared)), h .prepared, h .refs .lines) room;
+    alone = is-alone t (alone-moved s t fewer (alone-is s (f .alone)));
+    clear = is-clear t (modeIn (t .prepared)) (rowsIn (t .prepared)) clear;
   }
     where
+      clear : Clear t (modeIn (t .prepared)) (rowsIn (t .prepared))
+      clear = subst (λ (x : Option Prepared). Clear t (modeIn x) (rowsIn x)) (sym (h .prepared)) (clear-moved s t fewer (p .mode) (p .rows) (λ i k. row-name (count s) (p .rows) i (g .each i k)) c)
+
       entry : (n : ℕ) → fineEntry (count s) (entryAt t n) ≡ fineEntry (count s) (entryAt s n)
       entry = same-at t s (h .refs) (fineEntry (count s)) (unlocked-fine (count s))
 
@@ -196,11 +209,11 @@ module _ (s : Store) (f : Fine s) (idle : s .prepared ≡ none) where
 pub held-sound :
     (s : Store) → Fine s → s .prepared ≡ none
     → (mode : PackedRefs) (split rows : List Edit) → RowsFine (count s) split
-    → turnsFrom s (opens s mode split) (length split) 0 split ≡ pass rows
+    → turnsFrom s mode (opens s mode split) (length split) 0 split ≡ pass rows
     → length (s .lines) + length (dueLines s rows) ≤ 1024
     → Sound (held (record { mode = mode; rows = rows }) s)
 held-sound s f idle mode split rows g e room = record {
-  fine = holds-fine p s (held p s) h f (t .fine) room;
+  fine = holds-fine p s (held p s) h f (t .fine) (t .clear) room;
   agree = holds-agrees p s (held p s) h f (rw (alike-opens rows split (t .alike) s mode) (t .agreed));
 }
   where
@@ -210,5 +223,5 @@ held-sound s f idle mode split rows g e room = record {
     h : Holds p s (held p s)
     h = held-holds s f idle p
 
-    t : Turned s (opens s mode split) split rows
-    t = turns-fine s f (opens s mode split) split rows g e
+    t : Turned s mode (opens s mode split) split rows
+    t = turns-fine s f mode (opens s mode split) split rows g e

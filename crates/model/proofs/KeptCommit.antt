@@ -1,8 +1,10 @@
 -- Commit keeps the rules, wherever it stops, and what holds of every reached store. Assumes nothing.
-use mathlib.Core.Path.{_≡_, refl, sym, ap, _∙_, subst₂, fun-ext}
-use mathlib.Core.Bool.{Bool, true, false, _&&_, _||_, not, cond}
+use mathlib.Core.Path.{_≡_, refl, sym, ap, _∙_, subst, subst₂, fun-ext}
+use mathlib.Core.Bool.{Bool, true, false, _&&_, _||_, not, cond, false≢true}
 use mathlib.Core.List.{List, [], _∷_, _++_, map}
 use mathlib.Core.Option.{Option, none, some}
+use mathlib.Core.Logic.{_⊎_}
+use mathlib.Core.Logic._⊎_.{inl, inr}
 use Prim.Native.Nat.{ℕ, zero, suc, _+_, _≤_, _<_, _^_}
 use native.Mathlib.Omega.{arith}
 use lib.ListN.{length, getD, length-append, length-map}
@@ -28,7 +30,8 @@ use Rattle.model.specs.declared.Line.{Line}
 use Rattle.model.specs.Basic.{isEmpty, select, collect}
 use Rattle.model.specs.Names.{packable}
 use Rattle.model.specs.Store.{Store, Entry, noEntry, noLine, noRow, count, entryAt, entryOf, isOf, isNone, isPacked, isId, isPrepared, rowsIn, modeIn, putLoose, putPacked, changeAt, changeEntry, withEntries}
-use Rattle.model.specs.Rows.{nameIn, changeIn, rowAt, counts, opens, isDirect, packsUpdates}
+use Rattle.model.specs.Rows.{nameIn, changeIn, rowAt, counts, opens, isDirect, keepsLock, packsUpdates}
+use Rattle.model.specs.Beneath.{isLoose, lies, wouldWrite, willWrite}
 use Rattle.model.specs.Due.{hasLines, Stamp, Move, moveOf, orLeaf, isLogged, dueLine, dueLines, unsigned, lineBy}
 use Rattle.model.specs.Writes.{PackedEdit, Write, applyPacked, apply, w1, w2, w3, w4, packedEdit, packedEdits, packedSet, orderedWrites, writes, looseWrite, writesLoose}
 use Rattle.model.specs.Writes.Write.{appendLine, writeLoose, removeLog, writePacked, removeLoose}
@@ -40,7 +43,8 @@ use Rattle.model.specs.Reached.{leaves}
 use Rattle.model.proofs.Rules.{both-true, true-both}
 use Rattle.model.proofs.Places.{added-at, select-length, select-at, Each, each-append, each-when, each-cond, each-collect, each-weaken, each-map}
 use Rattle.model.proofs.FineEdit.{FineEdit, row-edit}
-use Rattle.model.proofs.Base.{changed-keeps, changed-count, Base, base, base-loose, base-packed, base-lines}
+use Rattle.model.proofs.Beneath.{Alone, alone-is, numberAt, Clear, clear-is, rows-apart}
+use Rattle.model.proofs.Base.{changed-keeps, changed-at, changed-count, Base, base, base-loose, base-packed, base-lines}
 use Rattle.model.proofs.KeptSimple.{Rule, released-kept, tested}
 
 -- ---- a write that keeps the rules
@@ -49,21 +53,21 @@ use Rattle.model.proofs.KeptSimple.{Rule, released-kept, tested}
 abbrev pub FinePacked : (ℕ → List ℕ) → PackedEdit → Type 0
 FinePacked bytes p = finePacked (bytes (p .name .0)) (p .value) ≡ true
 
--- a write whose values are fine among so many names, of these bytes
-abbrev pub Fit : ℕ → (ℕ → List ℕ) → Write → Type 0
-Fit c bytes (appendLine l) = fineLine c l ≡ true
-Fit c bytes (writeLoose n t) = fineTarget c t ≡ true
-Fit c bytes (removeLog n) = Unit
-Fit c bytes (writePacked ps) = Each (FinePacked bytes) ps
-Fit c bytes (removeLoose n) = Unit
+-- a write whose values are fine among so many names, of these bytes, and whose loose value is on a name that may have one
+abbrev pub Fit : ℕ → (ℕ → List ℕ) → (ℕ → Type 0) → Write → Type 0
+Fit c bytes may (appendLine l) = fineLine c l ≡ true
+Fit c bytes may (writeLoose n t) = (fineTarget c t ≡ true) × may (n .0)
+Fit c bytes may (removeLog n) = Unit
+Fit c bytes may (writePacked ps) = Each (FinePacked bytes) ps
+Fit c bytes may (removeLoose n) = Unit
 
 -- the bytes of a store's names
 abbrev pub names : Store → ℕ → List ℕ
 names s n = entryAt s n .name
 
 -- and a line finds room
-pub record FineWrite (s : Store) (w : Write) : Type 0 where
-  pub fit : Fit (count s) (names s) w
+pub record FineWrite (may : ℕ → Type 0) (s : Store) (w : Write) : Type 0 where
+  pub fit : Fit (count s) (names s) may w
   pub room : isLine w ≡ true → length (s .lines) < 1024
 
 packed-base : (bytes : ℕ → List ℕ) (ps : List PackedEdit) (s : Store) → Base s → ((n : ℕ) → entryAt s n .name ≡ bytes n)
@@ -75,20 +79,20 @@ packed-base bytes (p ∷ ps) s b e h =
     (λ n. changed-keeps (λ x. x .name) (putPacked (p .value)) (p .name .0) n (s .entries) refl ∙ e n)
     (h .1)
 
-pub apply-base : (w : Write) (s : Store) → Base s → FineWrite s w → Base (apply w s)
+pub apply-base : (may : ℕ → Type 0) (w : Write) (s : Store) → Base s → FineWrite may s w → Base (apply w s)
 unfolding apply
-apply-base (appendLine l) s b f =
+apply-base may (appendLine l) s b f =
     let free : length (s .lines) < 1024 = f .room refl in
     base-lines s (s .lines ++ (l ∷ [])) b
     (rw length-append (omega arith))
     (added-at (λ x. fineLine (count s) x ≡ true) noLine l (s .lines) (b .lines) (f .fit))
-apply-base (writeLoose n t) s b f = base-loose s (n .0) (loose.Target t) b (f .fit)
-apply-base (removeLog n) s b f =
+apply-base may (writeLoose n t) s b f = base-loose s (n .0) (loose.Target t) b (f .fit .0)
+apply-base may (removeLog n) s b f =
     base-lines s _ b
     (omega (arith, select-length (λ (l : Line). not (isOf n l)) (s .lines), b .short))
     (select-at (λ x. fineLine (count s) x ≡ true) (λ (l : Line). not (isOf n l)) noLine (s .lines) (b .lines))
-apply-base (writePacked ps) s b f = packed-base (names s) ps s b (λ n. refl) (f .fit)
-apply-base (removeLoose n) s b f = base-loose s (n .0) loose.None b refl
+apply-base may (writePacked ps) s b f = packed-base (names s) ps s b (λ n. refl) (f .fit)
+apply-base may (removeLoose n) s b f = base-loose s (n .0) loose.None b refl
 
 -- ---- a run of writes
 
@@ -123,6 +127,22 @@ apply-name (removeLog m) s n = refl
 apply-name (writePacked ps) s n = applied-keeps (λ x. x .name) (λ v x. refl) ps (s .entries) n
 apply-name (removeLoose m) s n = changed-keeps (λ x. x .name) (putLoose loose.None) (m .0) n (s .entries) refl
 
+-- after a write too, only names that may have a loose value have one
+abbrev Within : (ℕ → Type 0) → Store → Type 0
+Within may s = (n : ℕ) → isLoose s n ≡ true → may n
+
+pub apply-within : (may : ℕ → Type 0) (w : Write) (s : Store) → Within may s → FineWrite may s w → Within may (apply w s)
+unfolding apply
+apply-within may (appendLine l) s h f m p = h m p
+apply-within may (writeLoose n t) s h f m p =
+    changed-at (λ x. not (isNone (x .loose)) ≡ true → may m) (putLoose (loose.Target t)) (n .0) m (s .entries) (h m)
+    (λ e q. subst may e (f .fit .1)) p
+apply-within may (removeLog n) s h f m p = h m p
+apply-within may (writePacked ps) s h f m p = h m (rw (applied-keeps (λ x. x .loose) (λ v x. refl) ps (s .entries) m) at p)
+apply-within may (removeLoose n) s h f m p =
+    changed-at (λ x. not (isNone (x .loose)) ≡ true → may m) (putLoose loose.None) (n .0) m (s .entries) (h m)
+    (λ e q. absurd (false≢true q)) p
+
 -- what is left of the writes after one still finds room
 pub apply-room : (w : Write) (ws : List Write) (s : Store) → length (s .lines) + linesIn (w ∷ ws) ≤ 1024
     → length (apply w s .lines) + linesIn ws ≤ 1024
@@ -138,37 +158,56 @@ pub line-room : (w : Write) (ws : List Write) (s : Store) → length (s .lines) 
 line-room w ws s h e = let more : length (s .lines) + suc (linesIn ws) ≤ 1024 = rw e at h in omega arith
 
 -- a write that fits, unless commit stops before it for want of a committer
-abbrev Unless : Stamp → ℕ → (ℕ → List ℕ) → Write → Type 0
-Unless stamp c bytes w = isLine w && eqb (stamp .committer) 0 ≡ false → Fit c bytes w
+abbrev Unless : Stamp → (ℕ → Type 0) → ℕ → (ℕ → List ℕ) → Write → Type 0
+Unless stamp may c bytes w = isLine w && eqb (stamp .committer) 0 ≡ false → Fit c bytes may w
 
 -- what is asked of the writes that are left
-record Left (stamp : Stamp) (ws : List Write) (s : Store) : Type 0 where
+record Left (stamp : Stamp) (may : ℕ → Type 0) (ws : List Write) (s : Store) : Type 0 where
   base : Base s
+  within : Within may s
+  apart : (n m : ℕ) → may n → may m → lies s n m ≡ false
   room : length (s .lines) + linesIn ws ≤ 1024
-  fits : Each (Unless stamp (count s) (names s)) ws
+  fits : Each (Unless stamp may (count s) (names s)) ws
 
-left-after : (stamp : Stamp) (w : Write) (ws : List Write) (s : Store) → isLine w && eqb (stamp .committer) 0 ≡ false
-    → Left stamp (w ∷ ws) s → Left stamp ws (apply w s)
-left-after stamp w ws s e l =
+left-after : (stamp : Stamp) (may : ℕ → Type 0) (w : Write) (ws : List Write) (s : Store) → isLine w && eqb (stamp .committer) 0 ≡ false
+    → Left stamp may (w ∷ ws) s → Left stamp may ws (apply w s)
+left-after stamp may w ws s e l =
     record {
-      base = apply-base w s (l .base) (record { fit = l .fits .0 e; room = line-room w ws s (l .room) });
+      base = apply-base may w s (l .base) fine;
+      within = apply-within may w s (l .within) fine;
+      apart = λ n m p q. rw (apply-name w s n, apply-name w s m) (l .apart n m p q);
       room = apply-room w ws s (l .room);
-      fits = subst₂ (λ c n. Each (Unless stamp c n) ws) (sym (apply-count w s)) (sym (fun-ext (apply-name w s))) (l .fits .1);
+      fits = subst₂ (λ c n. Each (Unless stamp may c n) ws) (sym (apply-count w s)) (sym (fun-ext (apply-name w s))) (l .fits .1);
     }
+  where
+    fine : FineWrite may s w
+    fine = record { fit = l .fits .0 e; room = line-room w ws s (l .room) }
+
+-- what holds wherever a run stops
+record Kept (s : Store) : Type 0 where
+  base : Base s
+  alone : Alone s
+
+left-kept : (stamp : Stamp) (may : ℕ → Type 0) (ws : List Write) (s : Store) → Left stamp may ws s → Kept s
+left-kept stamp may ws s l = record {
+  base = l .base;
+  alone = record { alone = λ n m p q. l .apart n m (l .within n p) (l .within m q) };
+}
 
 -- wherever a run stops, the rules hold
-run-base : (stamp : Stamp) (k : ℕ) (ws : List Write) (made : ℕ) (s : Store) → Left stamp ws s → Base (run stamp k ws made s .store)
+run-kept : (stamp : Stamp) (may : ℕ → Type 0) (k : ℕ) (ws : List Write) (made : ℕ) (s : Store) → Left stamp may ws s
+    → Kept (run stamp k ws made s .store)
 unfolding run
-run-base stamp k [] made s l = l .base
-run-base stamp zero (w ∷ ws) made s l = l .base
-run-base stamp (suc k) (w ∷ ws) made s l =
-    go (isLine w && eqb (stamp .committer) 0) refl (run-base stamp k ws (made + 1) (apply w s))
+run-kept stamp may k [] made s l = left-kept stamp may [] s l
+run-kept stamp may zero (w ∷ ws) made s l = left-kept stamp may (w ∷ ws) s l
+run-kept stamp may (suc k) (w ∷ ws) made s l =
+    go (isLine w && eqb (stamp .committer) 0) refl (run-kept stamp may k ws (made + 1) (apply w s))
   where
     go : (t : Bool) → isLine w && eqb (stamp .committer) 0 ≡ t
-        → (Left stamp ws (apply w s) → Base (run stamp k ws (made + 1) (apply w s) .store))
-        → Base (run stamp (suc k) (w ∷ ws) made s .store)
-    go true e rest = rw e (l .base)
-    go false e rest = rw e (rest (left-after stamp w ws s e l))
+        → (Left stamp may ws (apply w s) → Kept (run stamp k ws (made + 1) (apply w s) .store))
+        → Kept (run stamp (suc k) (w ∷ ws) made s .store)
+    go true e rest = rw e (left-kept stamp may (w ∷ ws) s l)
+    go false e rest = rw e (rest (left-after stamp may w ws s e l))
 
 -- ---- how many lines commit appends: as many as are due, whoever commits
 
@@ -254,6 +293,16 @@ line-fine n stamp r f small there m h =
     (true-both (lt-ltb (stamp .committer) (2 ^ 16) (omega arith))
     (true-both (f .message) refl)))))
 
+-- a row that writes a loose value, and is no delete, is one of those that 25 looks at
+will-write : (s : Store) (mode : PackedRefs) (r : Edit) → writesLoose s mode r ≡ true → isDelete (changeIn r) ≡ false → willWrite s mode r ≡ true
+unfolding wouldWrite keepsLock
+will-write s mode r e u =
+    let outer : (keepsLock s mode r && not (isLogOnly (changeIn r)) ≡ true) × (not (isDirect s mode r) ≡ true) =
+    both-true (keepsLock s mode r && not (isLogOnly (changeIn r))) (not (isDirect s mode r)) e in
+    let inner : (keepsLock s mode r ≡ true) × (not (isLogOnly (changeIn r)) ≡ true) =
+    both-true (keepsLock s mode r) (not (isLogOnly (changeIn r))) (outer .0) in
+    true-both (true-both (true-both (ap not u) (inner .1)) (outer .1)) (inner .0)
+
 -- a packed value that commit sets
 set-fit : (c : ℕ) (bytes : ℕ → List ℕ) (n : NameNumber) (v : OptionTarget) → packable (bytes (n .0)) ≡ true → fineOption c v ≡ true
     → Each (FinePacked bytes) (packedSet n v)
@@ -261,13 +310,13 @@ set-fit c bytes n Absent p h = tt
 set-fit c bytes n (Present (Object o)) p h = (true-both h p, tt)
 set-fit c bytes n (Present (Symbolic m)) p h = tt
 
-module _ (stamp : Stamp) (small : stamp .committer ≤ 65535) (s : Store) (mode : PackedRefs) where
+module _ (stamp : Stamp) (small : stamp .committer ≤ 65535) (may : ℕ → Type 0) (s : Store) (mode : PackedRefs) where
   -- a write that fits unless commit stops before it, and one that fits and is no line
   abbrev Due : Write → Type 0
-  Due w = Unless stamp (count s) (names s) w
+  Due w = Unless stamp may (count s) (names s) w
 
   abbrev Quiet : Write → Type 0
-  Quiet w = (isLine w ≡ false) × Fit (count s) (names s) w
+  Quiet w = (isLine w ≡ false) × Fit (count s) (names s) may w
 
   quiet-lines : (ws : List Write) → Each Quiet ws → linesIn ws ≡ 0
   quiet-lines [] h = refl
@@ -275,9 +324,10 @@ module _ (stamp : Stamp) (small : stamp .committer ≤ 65535) (s : Store) (mode 
 
   -- ---- of a row
 
-  loose-due : (n : NameNumber) (v : OptionTarget) → fineOption (count s) v ≡ true → Each Due (looseWrite n v)
-  loose-due n Absent h = tt
-  loose-due n (Present t) h = (λ e. h, tt)
+  loose-due : (n : NameNumber) (c : Change) → fineOption (count s) (newValue c) ≡ true → (isDelete c ≡ false → may (n .0))
+      → Each Due (looseWrite n (newValue c))
+  loose-due n (Update log expected new) h m = (λ e. (h, m refl), tt)
+  loose-due n (Delete expected log) h m = tt
 
   lines-due : (r : Edit) → FineEdit (count s) r → Each (λ l. Due (appendLine l)) (dueLine stamp s r)
   unfolding dueLine
@@ -292,12 +342,12 @@ module _ (stamp : Stamp) (small : stamp .committer ≤ 65535) (s : Store) (mode 
       moves : List Move
       moves = moveOf (changeIn r) leaf
 
-  w1-due : (r : Edit) → FineEdit (count s) r → Each Due (w1 stamp s mode r)
+  w1-due : (r : Edit) → FineEdit (count s) r → (willWrite s mode r ≡ true → may (nameIn r .0)) → Each Due (w1 stamp s mode r)
   unfolding w1
-  w1-due r f =
+  w1-due r f m =
       each-append Due (map appendLine (dueLine stamp s r)) _
       (each-map Due (λ l. Due (appendLine l)) appendLine (λ l h. h) (dueLine stamp s r) (lines-due r f))
-      (each-cond Due (writesLoose s mode r) _ (λ e. loose-due (nameIn r) (newValue (changeIn r)) (f .new)))
+      (each-cond Due (writesLoose s mode r) _ (λ e. loose-due (nameIn r) (changeIn r) (f .new) (λ u. m (will-write s mode r e u))))
 
   w2-quiet : (r : Edit) → Each Quiet (w2 s r)
   unfolding w2
@@ -320,7 +370,7 @@ module _ (stamp : Stamp) (small : stamp .committer ≤ 65535) (s : Store) (mode 
 
   -- ---- of all rows
 
-  module _ (rows : List Edit) (f : (i : ℕ) → i < length rows → FineEdit (count s) (rowAt rows i)) where
+  module _ (rows : List Edit) (f : (i : ℕ) → i < length rows → FineEdit (count s) (rowAt rows i)) (m : (i : ℕ) → i < length rows → willWrite s mode (rowAt rows i) ≡ true → may (nameIn (rowAt rows i) .0)) where
     w3-quiet : Each Quiet (w3 s mode rows)
     unfolding w3
     w3-quiet =
@@ -341,34 +391,68 @@ module _ (stamp : Stamp) (small : stamp .committer ≤ 65535) (s : Store) (mode 
     unfolding orderedWrites
     writes-due =
         each-append Due (collect (w1 stamp s mode) rows) _
-        (each-collect Due (w1 stamp s mode) noRow rows (λ i k. w1-due (rowAt rows i) (f i k)))
+        (each-collect Due (w1 stamp s mode) noRow rows (λ i k. w1-due (rowAt rows i) (f i k) (m i k)))
         (each-weaken Due Quiet (λ w h e. h .1) rest rest-quiet)
 
-    pub writes-lines : linesIn (orderedWrites stamp s mode rows) ≡ length (dueLines s rows)
+    lines-of : linesIn (orderedWrites stamp s mode rows) ≡ length (dueLines s rows)
     unfolding orderedWrites
-    writes-lines =
+    lines-of =
         rw (lines-append (collect (w1 stamp s mode) rows) rest, quiet-lines rest rest-quiet)
         (omega (arith, lines-collect (w1 stamp s mode) (dueLine unsigned s) (w1-lines stamp s mode) rows))
 
+-- whoever may have a loose value
+pub writes-lines : (stamp : Stamp) → stamp .committer ≤ 65535 → (s : Store) (mode : PackedRefs) (rows : List Edit)
+    → ((i : ℕ) → i < length rows → FineEdit (count s) (rowAt rows i)) → linesIn (orderedWrites stamp s mode rows) ≡ length (dueLines s rows)
+writes-lines stamp small s mode rows f = lines-of stamp small (λ n. Unit) s mode rows f (λ i h w. tt)
+
 -- ---- commit
 
-committing-base : (s : Store) → Fine s → (stamp : Stamp) → stamp .committer ≤ 65535 → (k : ℕ) → Base (committing stamp k s .store)
+-- the names that may have a loose value while commit runs: those that had one, and those of the rows that write one
+record Wrote (s : Store) (n : ℕ) : Type 0 where
+  place : ℕ
+  there : place < length (rowsIn (s .prepared))
+  name : numberAt (rowsIn (s .prepared)) place ≡ n
+  writes : willWrite s (modeIn (s .prepared)) (rowAt (rowsIn (s .prepared)) place) ≡ true
+
+abbrev May : Store → ℕ → Type 0
+May s n = (isLoose s n ≡ true) ⊎ Wrote s n
+
+-- no two of them are nested
+module _ (s : Store) (f : Fine s) where
+  clear : Clear s (modeIn (s .prepared)) (rowsIn (s .prepared))
+  clear = clear-is s (modeIn (s .prepared)) (rowsIn (s .prepared)) (f .clear)
+
+  may-apart : (n m : ℕ) → May s n → May s m → lies s n m ≡ false
+  may-apart n m (inl p) (inl q) = alone-is s (f .alone) .alone n m p q
+  may-apart n m (inl p) (inr b) = rw (← b .name) (clear .clear (b .place) (b .there) .beneath (b .writes) n p)
+  may-apart n m (inr a) (inl q) = rw (← a .name) (clear .clear (a .place) (a .there) .above m q)
+  may-apart n m (inr a) (inr b) =
+      rw (← a .name, ← b .name)
+      (rows-apart s (modeIn (s .prepared)) (rowsIn (s .prepared)) clear (a .place) (b .place) (a .there) (b .there) (a .writes) (b .writes))
+
+committing-kept : (s : Store) → Fine s → (stamp : Stamp) → stamp .committer ≤ 65535 → (k : ℕ) → Kept (committing stamp k s .store)
 unfolding committing
-committing-base s f stamp small k =
-    run-base stamp k (writes stamp s) 0 s
+committing-kept s f stamp small k =
+    run-kept stamp (May s) k (writes stamp s) 0 s
     (record {
       base = base s f;
+      within = λ n p. inl p;
+      apart = may-apart s f;
       room = rw (writes-lines stamp small s (modeIn (s .prepared)) (rowsIn (s .prepared)) rows) (f .room);
-      fits = writes-due stamp small s (modeIn (s .prepared)) (rowsIn (s .prepared)) rows;
+      fits = writes-due stamp small (May s) s (modeIn (s .prepared)) (rowsIn (s .prepared)) rows wrote;
     })
   where
     rows : (i : ℕ) → i < length (rowsIn (s .prepared)) → FineEdit (count s) (rowAt (rowsIn (s .prepared)) i)
     rows i h = row-edit (count s) (rowsIn (s .prepared)) i (f .rows i h)
 
+    wrote : (i : ℕ) → i < length (rowsIn (s .prepared)) → willWrite s (modeIn (s .prepared)) (rowAt (rowsIn (s .prepared)) i) ≡ true
+        → May s (numberAt (rowsIn (s .prepared)) i)
+    wrote i h w = inr (record { place = i; there = h; name = refl; writes = w })
+
 module _ (P : Store → Type 0) (rule : Rule P) (s : Store) (here : P s) where
-  ended-kept : (r : Run) → Base (r .store) → (o : Option Stop) → P (leaves (ended r o) s)
-  ended-kept r b none = released-kept P rule (r .store) b
-  ended-kept r b (some why) = released-kept P rule (r .store) b
+  ended-kept : (r : Run) → Kept (r .store) → (o : Option Stop) → P (leaves (ended r o) s)
+  ended-kept r b none = released-kept P rule (r .store) (b .base) (b .alone)
+  ended-kept r b (some why) = released-kept P rule (r .store) (b .base) (b .alone)
 
   pub commit-kept : (c k : ℕ) → P (leaves (step (commit c k) s) s)
   unfolding step committed
@@ -377,4 +461,4 @@ module _ (P : Store → Type 0) (rule : Rule P) (s : Store) (here : P s) where
       let r : Run = committing stamp k s in
       tested P s here (not (isPrepared (s .prepared))) _ _ (λ e.
       tested P s here (ltb 65535 c) _ _ (λ h.
-      ended-kept r (committing-base s (rule .fine s here) stamp (ltb-false 65535 c h) k) (r .stop)))
+      ended-kept r (committing-kept s (rule .fine s here) stamp (ltb-false 65535 c h) k) (r .stop)))

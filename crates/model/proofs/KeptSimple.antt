@@ -1,33 +1,39 @@
 -- Every call but prepare and commit keeps the rules, and what holds of every reached store. Assumes nothing.
 use mathlib.Core.Path.{_≡_, refl}
-use mathlib.Core.Bool.{Bool, true, false, _&&_, not, cond, true≢false}
+use mathlib.Core.Bool.{Bool, true, false, _&&_, _||_, not, cond, true≢false, false≢true}
 use mathlib.Core.List.{List, [], _∷_, _++_}
 use mathlib.Core.Option.{Option, none, some}
+use mathlib.Core.Logic.{_⊎_}
+use mathlib.Core.Logic._⊎_.{inl, inr}
 use Prim.Native.Nat.{ℕ, zero, suc, _+_, _≤_, _<_}
 use native.Mathlib.Omega.{arith}
 use lib.ListN.{length, getD, length-append, List·getD-append}
 use lib.Seq.{getD-append-seam}
 use lib.Dec.{eqb, ltb, leb}
 use borrow.Author.Tests.{ltb-true, ltb-false, not-false, eqb-true, leb-false}
+use Rattle.model.specs.declared.Loose.{Loose}
+use Rattle.model.specs.declared.Packed.{Packed}
 use Rattle.model.specs.declared.Lock.{Lock}
 use Rattle.model.specs.declared.Lock.the-variants.{Free, Foreign, Ours}
 use Rattle.model.specs.declared.WriteReflog.{WriteReflog}
 use Rattle.model.specs.declared.Refusal.{Refusal}
 use Rattle.model.specs.declared.Refusal.the-variants.{Malformed}
 use Rattle.model.specs.Names.{isName, sameBytes, packable}
-use Rattle.model.specs.Store.{Store, Entry, noEntry, Prepared, empty, count, entryAt, rowsIn, isPrepared, isLock, isId, lockByte, linesOf, putLoose, putPacked, putLock, changeEntry, withEntries, withPackedLock}
+use Rattle.model.specs.Store.{Store, Entry, noEntry, Prepared, empty, count, entryAt, rowsIn, isPrepared, isLock, isId, isNone, lockByte, linesOf, putLoose, putPacked, putLock, changeEntry, withEntries, withPackedLock}
 use Rattle.model.specs.Outcome.{Outcome, refuseIf, orRefuse}
 use Rattle.model.specs.Outcome.Outcome.{refuse, pass}
 use Rattle.model.specs.Fine.{Fine, apartNames, fineEntry, fineLoose, finePacked}
 use Rattle.model.specs.Reply.{Reply, _>>=_, _>>_, known, idle}
 use Rattle.model.specs.Reply.Call.{start, addName, nameBytes, loadLoose, loadPacked, lockName, unlockName, lockPacked, unlockPacked, rollback, readName, readLine, readRow}
+use Rattle.model.specs.Beneath.{isLoose, lies, looseAbove, looseBeneath}
 use Rattle.model.specs.Commit.{released}
-use Rattle.model.specs.Load.{Lockable, settingOf, looseOf, packedOf, numberFrom, newEntry, addedAs, knownLock, lockOf, setLock, started, nameAdded, bytesGiven, looseLoaded, packedLoaded, placed, lifted}
+use Rattle.model.specs.Load.{Lockable, settingOf, looseOf, packedOf, numberFrom, newEntry, addedAs, knownLock, lockOf, setLock, started, nameAdded, bytesGiven, nests, looseLoaded, packedLoaded, placed, lifted}
 use Rattle.model.specs.Load.Lockable.{name as ofName, packedTable}
 use Rattle.model.specs.Calls.{rolledBack, nameRead, lineRead, rowRead, step}
 use Rattle.model.specs.Reached.{leaves, Sound}
 use Rattle.model.proofs.Places.{added-at, added-keeps}
-use Rattle.model.proofs.Base.{changed-count, changed-keeps, entry-loose, entry-packed, Base, base, base-entry, idle-fine, idle-free, fine-sound, released-fine}
+use Rattle.model.proofs.Base.{changed-count, changed-keeps, changed-at, entry-loose, entry-packed, Base, base, base-entry, idle-fine, idle-free, fine-sound, released-fine}
+use Rattle.model.proofs.Beneath.{neither, not-and, not-itself, Alone, alone-is, above-not, beneath-not, Fewer, alone-moved}
 use Rattle.model.proofs.Grown.{line-grows, entry-grows, Alike, Held, alike-fine, alike-sound}
 
 -- what the rules and what holds of reached stores have in common: where nothing is prepared the rules are enough, and it goes
@@ -45,9 +51,9 @@ pub ruleSound : Rule Sound
 ruleSound = record { fine = λ s f. f .fine; sound = λ s h. h; idle = fine-sound; alike = alike-sound }
 
 -- after commit or rollback
-pub released-kept : (P : Store → Type 0) → Rule P → (s : Store) → Base s → P (released s)
+pub released-kept : (P : Store → Type 0) → Rule P → (s : Store) → Base s → Alone s → P (released s)
 unfolding released
-released-kept P rule s b = rule .idle (released s) (released-fine s b) refl
+released-kept P rule s b a = rule .idle (released s) (released-fine s b a) refl
 
 -- what is given, if anything is, passes the test
 abbrev pub inAny : {A : Type 0} → (A → Bool) → Option A → Bool
@@ -73,7 +79,7 @@ module _ (P : Store → Type 0) (s : Store) (here : P s) where
 -- ---- the calls, for whatever obeys the rule
 
 pub empty-fine : (setting : WriteReflog) → Fine (empty setting)
-empty-fine setting = idle-fine (empty setting) nothing refl (λ n h. absurd (omega arith)) refl
+empty-fine setting = idle-fine (empty setting) nothing (record { alone = λ n m h. absurd (false≢true h) }) refl (λ n h. absurd (omega arith)) refl
   where
     nothing : Base (empty setting)
     nothing =
@@ -156,6 +162,36 @@ base-added s bytes b e o h =
         let old : m < count s = omega arith in
         rw (new, getD-append-seam (s .entries) (newEntry bytes) [] noEntry, old-at m old, number-none 0 bytes (s .entries) o m old)
 
+-- a packed value makes no name loose
+packed-fewer : (s : Store) (n : ℕ) (v : Packed) → Fewer s (changeEntry (putPacked v) n s)
+packed-fewer s n v = record {
+  name = λ m h. changed-keeps (λ x. x .name) (putPacked v) n m (s .entries) refl;
+  loose = λ m h. rw (changed-keeps (λ x. x .loose) (putPacked v) n m (s .entries) refl) at h;
+}
+
+-- a load that 21 does not refuse puts no loose value beneath another
+loaded-alone : (s : Store) (n : ℕ) (v : Loose) → Alone s → nests s n v ≡ false → Alone (changeEntry (putLoose v) n s)
+unfolding nests
+loaded-alone s n v a h = record { alone = λ m k p q. rw (name m, name k) (go m k (was m p) (was k q)) }
+  where
+    Was : ℕ → Type 0
+    Was m = (isLoose s m ≡ true) ⊎ ((n ≡ m) × (not (isNone v) ≡ true))
+
+    name : (m : ℕ) → entryAt (changeEntry (putLoose v) n s) m .name ≡ entryAt s m .name
+    name m = changed-keeps (λ x. x .name) (putLoose v) n m (s .entries) refl
+
+    was : (m : ℕ) → isLoose (changeEntry (putLoose v) n s) m ≡ true → Was m
+    was m = changed-at (λ x. not (isNone (x .loose)) ≡ true → Was m) (putLoose v) n m (s .entries) (λ p. inl p) (λ e p. inr (e, p))
+
+    none : not (isNone v) ≡ true → (looseAbove s n ≡ false) × (looseBeneath s n ≡ false)
+    none p = neither _ _ (not-and (not (isNone v)) _ h p)
+
+    go : (m k : ℕ) → Was m → Was k → lies s m k ≡ false
+    go m k (inl p) (inl q) = a .alone m k p q
+    go m k (inl p) (inr (e, q)) = rw (← e) (beneath-not s n (none q .1) m p)
+    go m k (inr (e, p)) (inl q) = rw (← e) (above-not s n (none p .0) k q)
+    go m k (inr (e, p)) (inr (d, q)) = rw (← e, ← d) (not-itself (entryAt s n .name))
+
 -- a lock that was not ours and is not becomes no more ours
 not-ours : (old new l : Lock) → isLock Ours old ≡ false → isLock Ours new ≡ false → isLock old l ≡ true → isLock Ours new ≡ isLock Ours l
 not-ours old new l p q e = rw (← eqb-true (lockByte old) (lockByte l) e, p, q)
@@ -163,6 +199,9 @@ not-ours old new l p q e = rw (← eqb-true (lockByte old) (lockByte l) e, p, q)
 module _ (P : Store → Type 0) (rule : Rule P) (s : Store) (here : P s) where
   rules : Base s
   rules = base s (rule .fine s here)
+
+  apart : Alone s
+  apart = alone-is s (rule .fine s here .alone)
 
   -- past a test, past a number that is registered, past 15
   past : (t : Bool) (why : Refusal) (r : Reply) → (t ≡ false → P (leaves r s)) → P (leaves (refuseIf t why >> r) s)
@@ -179,7 +218,7 @@ module _ (P : Store → Type 0) (rule : Rule P) (s : Store) (here : P s) where
 
   pub rollback-kept : P (leaves (step rollback s) s)
   unfolding step rolledBack
-  rollback-kept = released-kept P rule s rules
+  rollback-kept = released-kept P rule s rules apart
 
   pub nameBytes-kept : (n : ℕ) → P (leaves (step (nameBytes n) s) s)
   unfolding step bytesGiven
@@ -201,10 +240,11 @@ module _ (P : Store → Type 0) (rule : Rule P) (s : Store) (here : P s) where
 
   -- with nothing prepared, an entry is changed to a fine one with the same name and lock
   changed : (f : Entry → Entry) (n : ℕ) → s .prepared ≡ none → f (entryAt s n) .name ≡ entryAt s n .name
-      → f (entryAt s n) .lock ≡ entryAt s n .lock → fineEntry (count s) (f (entryAt s n)) ≡ true → P (changeEntry f n s)
-  changed f n e name lock fine =
+      → f (entryAt s n) .lock ≡ entryAt s n .lock → fineEntry (count s) (f (entryAt s n)) ≡ true → Alone (changeEntry f n s)
+      → P (changeEntry f n s)
+  changed f n e name lock fine alone =
       rule .idle (changeEntry f n s)
-      (idle-fine (changeEntry f n s) (base-entry s f n rules name (λ h. fine)) e
+      (idle-fine (changeEntry f n s) (base-entry s f n rules name (λ h. fine)) alone e
       (λ m h. rw (changed-keeps (λ x. x .lock) f n m (s .entries) lock) (free .0 m (rw (changed-count f n (s .entries)) at h)))
       (free .1))
       e
@@ -219,8 +259,10 @@ module _ (P : Store → Type 0) (rule : Rule P) (s : Store) (here : P s) where
       past-known n _ (λ h.
       past (eqb kind 2 && not (ltb x (count s))) _ _ (λ k.
       taken P s here (fineLoose (count s)) (looseOf kind x) _ _ (loose-fine (count s) kind x k) (λ v q.
+      past (nests s n v) _ _ (λ g.
       changed (putLoose v) n (not-prepared (s .prepared) e) refl refl
-      (entry-loose (count s) (entryAt s n) v (rules .entries n h) q)))))
+      (entry-loose (count s) (entryAt s n) v (rules .entries n h) q)
+      (loaded-alone s n v apart g))))))
 
   pub loadPacked-kept : (n kind x : ℕ) → P (leaves (step (loadPacked n kind x) s) s)
   unfolding step packedLoaded
@@ -230,7 +272,8 @@ module _ (P : Store → Type 0) (rule : Rule P) (s : Store) (here : P s) where
       let bytes : List ℕ = entryAt s n .name in
       taken P s here (finePacked bytes) (packedOf bytes kind x) _ _ (packed-fine bytes kind x) (λ v q.
       changed (putPacked v) n (not-prepared (s .prepared) e) refl refl
-      (entry-packed (count s) (entryAt s n) v (rules .entries n h) q))))
+      (entry-packed (count s) (entryAt s n) v (rules .entries n h) q)
+      (alone-moved s (changeEntry (putPacked v) n s) (packed-fewer s n v) apart))))
 
   -- ---- locks of others
 

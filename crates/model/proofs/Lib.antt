@@ -1,6 +1,7 @@
 pub mod AtWork
 pub mod Rules
 pub mod RowsFine
+pub mod Beneath
 pub mod Stops
 pub mod Release
 pub mod Commits

@@ -50,10 +50,10 @@ prepare-sound s f list number p e =
     pass-then (splits s (map rowOf edits)) _ p h₄ λ split e₅ h₅.
     pass-then (oneNameOneEdit s split) _ p h₅ λ _ e₆ h₆.
     pass-then (opening s mode split) _ p h₆ λ opened e₇ h₇.
-    pass-then (turnsFrom s opened (length split) 0 split) _ p h₇ λ rows e₈ h₈.
+    pass-then (turnsFrom s mode opened (length split) 0 split) _ p h₇ λ rows e₈ h₈.
     pass-then (refuseIf (ltb 1024 (length (s .lines) + length (dueLines s rows))) LogFull) _ p h₈ λ _ e₉ h₉.
     subst (λ (q : Prepared). Sound (held q s)) (pass-is h₉)
     (held-sound s f (not-prepared (s .prepared) (refuseIf-inv _ WrongState e₁)) mode split rows
     (split-fine s f list edits split (orRefuse-inv Malformed (editsOf list) edits e₂) e₄ e₅ e₆)
-    (subst (λ (o : Bool). turnsFrom s o (length split) 0 split ≡ pass rows) (sym (opening-is s mode split opened e₇)) e₈)
+    (subst (λ (o : Bool). turnsFrom s mode o (length split) 0 split ≡ pass rows) (sym (opening-is s mode split opened e₇)) e₈)
     (ltb-false 1024 (length (s .lines) + length (dueLines s rows)) (refuseIf-inv _ LogFull e₉)))

@@ -5,7 +5,7 @@ use Prim.Native.Nat.{ℕ}
 use Prim.Native.Char.{code}
 use Prim.Native.String.{String}
 use Prim.Native.String as string
-pub use Rattle.word.specs.Tests.{every, Below}
+pub use Rattle.word.specs.Tests.{every, Below, someBelow}
 unfoldable pub use Rattle.word.specs.Tests.{below}
 
 -- the bytes of a text

@@ -11,8 +11,9 @@ use Rattle.target.specs.declared.OptionTarget.{OptionTarget}
 use Rattle.target.specs.declared.OptionTarget.the-variants.{Absent, Present}
 use Rattle.transaction.specs.declared.ParentIndex.{ParentIndex}
 use Rattle.transaction.specs.declared.ParentIndex.the-variants.{NoParent, Parent}
+use Rattle.transaction.specs.declared.PackedRefs.{PackedRefs}
 use Rattle.transaction.specs.declared.Edit.{Edit}
-use Rattle.transaction.specs.Change.{newValue, previousValue, messageOf}
+use Rattle.transaction.specs.Change.{newValue, previousValue, messageOf, existingIn}
 use Rattle.model.specs.declared.Loose.{Loose}
 use Rattle.model.specs.declared.Loose.the-variants as loose
 use Rattle.model.specs.declared.Packed.{Packed}
@@ -24,6 +25,7 @@ use Rattle.model.specs.Names.{isName, sameBytes, packable}
 use Rattle.model.specs.Store.{Store, Entry, count, entryAt, noLine, rowsIn, modeIn, isLock, isId}
 use Rattle.model.specs.Rows.{nameIn, changeIn, rowAt, ancestors, opens, keepsLock}
 use Rattle.model.specs.Due.{dueLines}
+use Rattle.model.specs.Beneath.{isLoose, looseAbove, conflicts}
 
 -- ---- names and values
 
@@ -114,6 +116,16 @@ apartNames s n m = not (sameBytes (entryAt s n .name) (entryAt s m .name))
 abbrev pub apartRows : List Edit → ℕ → ℕ → Bool
 apartRows rows i j = not (eqb (nameIn (rowAt rows i) .0) (nameIn (rowAt rows j) .0))
 
+-- ---- names beneath names
+
+-- no loose value beneath another, broken ones too
+unfoldable pub aloneLoose : Store → ℕ → Bool
+aloneLoose s n = not (isLoose s n && looseAbove s n)
+
+-- no prepared row that 25 refuses, with the existing value read off the row
+unfoldable pub clearRow : Store → PackedRefs → List Edit → ℕ → Bool
+clearRow s mode rows i = not (conflicts s mode rows i (existingIn (changeIn (rowAt rows i))))
+
 -- ---- the rules
 
 pub record Fine (s : Store) : Type 0 where
@@ -128,6 +140,8 @@ pub record Fine (s : Store) : Type 0 where
   pub locks : Below (count s) (fineLock s)
   pub packedLock : finePackedLock s ≡ true
   pub room : length (s .lines) + length (dueLines s (rowsIn (s .prepared))) ≤ 1024
+  pub alone : Below (count s) (aloneLoose s)
+  pub clear : Below (length (rowsIn (s .prepared))) (clearRow s (modeIn (s .prepared)) (rowsIn (s .prepared)))
 
 -- ---- the same as a test, in groups: a rule stands in one group's list
 
@@ -162,6 +176,13 @@ lockRules s = below (count s) (fineLock s) ∷ finePackedLock s ∷ []
 abbrev pub roomRules : Store → List Bool
 roomRules s = leb (length (s .lines) + length (dueLines s (rowsIn (s .prepared)))) 1024 ∷ []
 
+-- names beneath names
+abbrev pub nestRules : Store → List Bool
+nestRules s =
+    below (count s) (aloneLoose s)
+    ∷ below (length (rowsIn (s .prepared))) (clearRow s (modeIn (s .prepared)) (rowsIn (s .prepared)))
+    ∷ []
+
 unfoldable pub fineNames : Store → Bool
 fineNames s = every (nameRules s)
 
@@ -177,5 +198,8 @@ fineLocks s = every (lockRules s)
 unfoldable pub fineRoom : Store → Bool
 fineRoom s = every (roomRules s)
 
+unfoldable pub fineNests : Store → Bool
+fineNests s = every (nestRules s)
+
 unfoldable pub fine : Store → Bool
-fine s = every (fineNames s ∷ fineLines s ∷ fineRows s ∷ fineLocks s ∷ fineRoom s ∷ [])
+fine s = every (fineNames s ∷ fineLines s ∷ fineRows s ∷ fineLocks s ∷ fineRoom s ∷ fineNests s ∷ [])

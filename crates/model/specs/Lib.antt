@@ -3,6 +3,7 @@ pub mod Names
 pub mod Store
 pub mod Read
 pub mod Rows
+pub mod Beneath
 pub mod EditList
 pub mod Outcome
 pub mod Split

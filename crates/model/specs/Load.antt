@@ -1,5 +1,5 @@
 -- Start, names, loads and foreign locks. Refusals go by number, 15 first.
-use mathlib.Core.Bool.{_&&_, not, cond}
+use mathlib.Core.Bool.{Bool, _&&_, _||_, not, cond}
 use mathlib.Core.List.{List, [], _∷_, _++_}
 use mathlib.Core.Option.{Option, none, some}
 use Prim.Native.Nat.{ℕ, zero, suc, _+_}
@@ -15,7 +15,8 @@ use Rattle.model.specs.declared.WriteReflog.{WriteReflog}
 use Rattle.model.specs.declared.WriteReflog.the-variants.{Disable, Normal, Always}
 use Rattle.model.specs.declared.Refusal.the-variants.{Malformed, NotRegistered, BadName, NamesFull, WrongLock, BadLoad}
 use Rattle.model.specs.Names.{isName, sameBytes, packable}
-use Rattle.model.specs.Store.{Store, Entry, empty, count, entryAt, isLock, isId, putLoose, putPacked, putLock, changeEntry, withEntries, withPackedLock}
+use Rattle.model.specs.Store.{Store, Entry, empty, count, entryAt, isLock, isId, isNone, putLoose, putPacked, putLock, changeEntry, withEntries, withPackedLock}
+use Rattle.model.specs.Beneath.{looseAbove, looseBeneath}
 use Rattle.model.specs.Outcome.{Outcome, refuseIf, orRefuse}
 use Rattle.model.specs.Outcome.Outcome.{pass}
 use Rattle.model.specs.Reply.{Reply, _>>=_, _>>_, known, idle}
@@ -72,12 +73,17 @@ looseOf (suc (suc zero)) x = some (loose.Target (Symbolic (record { 0 = x })))
 looseOf (suc (suc (suc zero))) x = cond (eqb x 0) (some loose.Broken) none
 looseOf (suc (suc (suc (suc k)))) x = none
 
+-- 21 too: a loose value, broken too, beneath another or above one
+unfoldable pub nests : Store → ℕ → Loose → Bool
+nests s n v = not (isNone v) && (looseAbove s n || looseBeneath s n)
+
 unfoldable pub looseLoaded : ℕ → ℕ → ℕ → Store → Reply
 looseLoaded n kind x s = do
   idle s
   known n s
   refuseIf (eqb kind 2 && not (ltb x (count s))) (NotRegistered x)
   v ← orRefuse BadLoad (looseOf kind x)
+  refuseIf (nests s n v) BadLoad
   done (changeEntry (putLoose v) n s) nothing
 
 -- kind 0 none, 1 object. 21 too: a packed value on an unpackable name

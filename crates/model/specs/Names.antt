@@ -1,6 +1,6 @@
 -- Names: which bytes are one, which names are packable, their order, and the log rule's prefixes.
 use mathlib.Core.Bool.{Bool, true, false, _&&_, _||_, not, cond}
-use mathlib.Core.List.{List, [], _∷_}
+use mathlib.Core.List.{List, [], _∷_, _++_}
 use Prim.Native.Nat.{ℕ, _-_}
 use Prim.Native.Char.{Char, code}
 use Prim.Native.String.{String}
@@ -39,6 +39,10 @@ holds t n = within (text t) n
 
 abbrev pub endsIn : String → List ℕ → Bool
 endsIn t n = sameBytes (text t) (drop (length n - length (text t)) n)
+
+-- a name lies beneath another if it begins with that name and a `/`
+unfoldable pub beneath : List ℕ → List ℕ → Bool
+beneath name above = begins (above ++ text "/") name
 
 -- byte order: the first stands before the second
 abbrev pub before : List ℕ → List ℕ → Bool

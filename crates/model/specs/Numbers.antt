@@ -13,7 +13,7 @@ use Rattle.transaction.specs.declared.Edit.{Edit}
 use Rattle.transaction.specs.Change.{newValue, previousValue, expectedOf, logOf, forceOf, messageOf}
 use Rattle.transaction.specs.Fields.{changeByte, refLogByte, previousByte}
 use Rattle.model.specs.declared.Refusal.{Refusal}
-use Rattle.model.specs.declared.Refusal.the-variants.{BadRegion, Malformed, NotRegistered, ReferenceCycle, TooManyRows, MultipleEdits, PackedTransactionAcquire, LockAcquire, DeleteReferenceMustExist, MustNotExist, MustExist, ReferenceOutOfDate, DeleteMustNotExist, LogFull, WrongState, BadName, NamesFull, WrongLock, BadLoad, NothingThere, MalformedRecord, UnknownVersion, ShortBuffer}
+use Rattle.model.specs.declared.Refusal.the-variants.{BadRegion, Malformed, NotRegistered, ReferenceCycle, TooManyRows, MultipleEdits, PackedTransactionAcquire, LockAcquire, DeleteReferenceMustExist, MustNotExist, MustExist, ReferenceOutOfDate, DeleteMustNotExist, LogFull, WrongState, BadName, NamesFull, WrongLock, BadLoad, NothingThere, MalformedRecord, UnknownVersion, NameConflict, ShortBuffer}
 use Rattle.model.specs.Store.{Store, entryAt}
 use Rattle.model.specs.Rows.{nameIn, changeIn}
 use Rattle.model.specs.Commit.{Stop}
@@ -63,6 +63,7 @@ refusalAnswer BadLoad = answer 21 []
 refusalAnswer NothingThere = answer 22 []
 refusalAnswer MalformedRecord = answer 23 []
 refusalAnswer UnknownVersion = answer 24 []
+refusalAnswer (NameConflict n) = answer 25 (n .0 ∷ [])
 refusalAnswer ShortBuffer = answer 33 []
 
 abbrev pub stopNumber : Stop → ℕ

@@ -20,7 +20,7 @@ use Rattle.transaction.specs.Change.{previousOid, rowOf}
 use Rattle.transaction.specs.Fields.{packedRefsOf, packedRefsOption}
 use Rattle.model.specs.declared.Lock.the-variants.{Foreign, Ours}
 use Rattle.model.specs.declared.Refusal.{Refusal}
-use Rattle.model.specs.declared.Refusal.the-variants.{Malformed, NotRegistered, PackedTransactionAcquire, LockAcquire, LogFull, WrongState}
+use Rattle.model.specs.declared.Refusal.the-variants.{Malformed, NotRegistered, PackedTransactionAcquire, LockAcquire, LogFull, WrongState, NameConflict}
 use Rattle.model.specs.Basic.{any, collect}
 use Rattle.model.specs.Store.{Store, Entry, Prepared, count, entryOf, isPrepared, isLock, putLock, changeAt}
 use Rattle.model.specs.Read.{valueOf}
@@ -29,6 +29,7 @@ use Rattle.model.specs.EditList.{editsOf, numbersOf, firstOut}
 use Rattle.model.specs.Outcome.{Outcome, _>>=_, _>>_, refuseIf, orRefuse}
 use Rattle.model.specs.Outcome.Outcome.{refuse, pass}
 use Rattle.model.specs.Split.{splits, oneNameOneEdit}
+use Rattle.model.specs.Beneath.{conflicts}
 use Rattle.model.specs.Judge.{judge}
 use Rattle.model.specs.Due.{dueLines}
 
@@ -59,10 +60,16 @@ lockTest s rows i = cond (isLock Foreign (entryOf s (nameIn (rowAt rows i)) .loc
 abbrev pub existing : Store → Bool → Edit → OptionTarget
 existing s opened r = valueOf opened (entryOf s (nameIn r))
 
--- a row's turn is a list of tests, the first refusal deciding: 8 before 9 to 13
-abbrev pub turnTests : Store → Bool → List Edit → ℕ → List (Option Refusal)
-turnTests s opened rows i =
-    lockTest s rows i
+-- 25: a name beneath another
+abbrev pub conflictTest : Store → PackedRefs → Bool → List Edit → ℕ → Option Refusal
+conflictTest s mode opened rows i =
+    cond (conflicts s mode rows i (existing s opened (rowAt rows i))) (some (NameConflict (nameIn (rowAt rows i)))) none
+
+-- a row's turn is a list of tests, the first refusal deciding: 25 before 8 before 9 to 13
+abbrev pub turnTests : Store → PackedRefs → Bool → List Edit → ℕ → List (Option Refusal)
+turnTests s mode opened rows i =
+    conflictTest s mode opened rows i
+    ∷ lockTest s rows i
     ∷ judge (nameIn (rowAt rows i)) (changeIn (rowAt rows i)) (existing s opened (rowAt rows i))
     ∷ []
 
@@ -101,15 +108,16 @@ turned s opened rows i =
     let r : Edit = observed (rowAt rows i) (existing s opened (rowAt rows i)) in
     handedOn (previousOid (changeIn r)) (ancestors rows i) (set rows i r)
 
-unfoldable pub turn : Store → Bool → List Edit → ℕ → Outcome (List Edit)
-turn s opened rows i = firstRefusal (turnTests s opened rows i) >> pass (turned s opened rows i)
+unfoldable pub turn : Store → PackedRefs → Bool → List Edit → ℕ → Outcome (List Edit)
+turn s mode opened rows i = firstRefusal (turnTests s mode opened rows i) >> pass (turned s opened rows i)
 
 -- k rows from place i on
-unfoldable pub turnsFrom : Store → Bool → ℕ → ℕ → List Edit → Outcome (List Edit)
-turnsFrom s opened zero i rows = pass rows
-turnsFrom s opened (suc k) i rows = turn s opened rows i >>= λ next. turnsFrom s opened k (i + 1) next
+unfoldable pub turnsFrom : Store → PackedRefs → Bool → ℕ → ℕ → List Edit → Outcome (List Edit)
+turnsFrom s mode opened zero i rows = pass rows
+turnsFrom s mode opened (suc k) i rows = turn s mode opened rows i >>= λ next. turnsFrom s mode opened k (i + 1) next
 
--- ---- the rows of a transaction, or the refusal: 15, 2, 3, 4 or 5, 6, 7, then row by row 8 before 9 to 13, then 14
+-- ---- the rows of a transaction, or the refusal: 15, 2, 3, 4 or 5, 6, 7, then row by row 25 before 8 before 9 to 13,
+-- then 14
 
 unfoldable pub rowsFor : List ℕ → ℕ → Store → Outcome Prepared
 rowsFor list number s = do
@@ -120,7 +128,7 @@ rowsFor list number s = do
   split ← splits s (map rowOf edits)
   oneNameOneEdit s split
   opened ← opening s mode split
-  rows ← turnsFrom s opened (length split) 0 split
+  rows ← turnsFrom s mode opened (length split) 0 split
   refuseIf (ltb 1024 (length (s .lines) + length (dueLines s rows))) LogFull
   pass (record { mode = mode; rows = rows })
 

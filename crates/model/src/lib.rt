@@ -85,6 +85,7 @@ pub enum Refusal {
     NothingThere,
     MalformedRecord,
     UnknownVersion,
+    NameConflict(NameNumber),
     ShortBuffer,
 }
 

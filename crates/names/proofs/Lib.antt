@@ -3,3 +3,4 @@ pub mod Classes
 pub mod Components
 pub mod Syntax
 pub mod Prefixes
+pub mod Beneath

@@ -1,7 +1,7 @@
 // Byte strings compared: one begins or ends another, stands in it, or stands before it in order.
 // Every answer is that of a definition of crates/model/specs/Names.antt, or of specs/Ends.antt.
 ghost use mathlib.Core.Path.{_≡_};
-ghost use Rattle.model.specs.Names.{begins, within, before};
+ghost use Rattle.model.specs.Names.{begins, within, beneath, before};
 ghost use Rattle.names.specs.Ends.{ends};
 
 // The name begins with the prefix.
@@ -46,6 +46,20 @@ pub fn contains(name: &[u8], part: &[u8]) -> bool
         }
         i += 1;
     }
+}
+
+// The name begins with the other and a `/`. Lengths and the `/` are asked first: as a rule they tell, and no byte more is compared.
+pub fn is_beneath(name: &[u8], above: &[u8]) -> bool
+    ensures { λ r. ⌜ r ≡ beneath (now (name .entry)) (now (above .entry)) ⌝ }
+{
+    let end = above.len();
+    if name.len() <= end {
+        return false;
+    }
+    if name[end] != b'/' {
+        return false;
+    }
+    word::same(above, &name[..end])
 }
 
 // Byte order: the first stands before the second.

@@ -63,10 +63,10 @@ module _ (s : Store) (q : Option Prepared) where
     turns-of : (rows : List Edit) → turnsJudged (withPrepared s q) mode rows ≡ turnsJudged s mode rows
     unfolding turnsJudged
     turns-of rows =
-        last-of (turnsFrom (withPrepared s q) (opens (withPrepared s q) mode rows) (length rows) 0 rows)
+        last-of (turnsFrom (withPrepared s q) mode (opens (withPrepared s q) mode rows) (length rows) 0 rows)
         ∙ ap (λ (o : Outcome (List Edit)). o >>= λ rows. refuseIf (ltb 1024 (length (s .lines) + length (dueLines s rows))) LogFull >> pass rows)
-        (same-turns s q (opens (withPrepared s q) mode rows) (length rows) 0 rows
-        ∙ ap (λ (b : Bool). turnsFrom s b (length rows) 0 rows) (same-opens (withPrepared s q) s same-refs mode rows))
+        (same-turns s q mode (opens (withPrepared s q) mode rows) (length rows) 0 rows
+        ∙ ap (λ (b : Bool). turnsFrom s mode b (length rows) 0 rows) (same-opens (withPrepared s q) s same-refs mode rows))
 
     pub split-of : (rows : List Edit) → splitJudged (withPrepared s q) mode rows ≡ splitJudged s mode rows
     unfolding splitJudged
@@ -119,9 +119,10 @@ past n = go (leb n 1024) refl
     go true e = le-ltb 1024 n (leb-true n 1024 e)
     go false e = lt-ltb 1024 n (leb-false n 1024 e)
 
-module _ (r₀ r₁ : List ℕ) (opened : Bool) (j : Judged)
+module _ (r₀ r₁ : List ℕ) (mode : PackedRefs) (opened : Bool) (j : Judged)
+    (em : mode ≡ modeIn (view r₀ .prepared))
     (eo : opened ≡ opens (view r₀) (modeIn (view r₀ .prepared)) (rowsIn (view r₀ .prepared)))
-    (t : Taken r₀ r₁ j (turnsFrom (view r₀) opened (length (rowsIn (view r₀ .prepared))) 0 (rowsIn (view r₀ .prepared)))) where
+    (t : Taken r₀ r₁ j (turnsFrom (view r₀) mode opened (length (rowsIn (view r₀ .prepared))) 0 (rowsIn (view r₀ .prepared)))) where
   abbrev rest : List Edit → Outcome (List Edit)
   rest rows = refuseIf (ltb 1024 (length (view r₀ .lines) + length (dueLines (view r₀) rows))) LogFull >> pass rows
 
@@ -129,7 +130,7 @@ module _ (r₀ r₁ : List ℕ) (opened : Bool) (j : Judged)
   unfolding turnsJudged
   whole-is k e =
       ap (λ (o : Outcome (List Edit)). o >>= rest)
-      (ap (λ (b : Bool). turnsFrom (view r₀) b (length (rowsIn (view r₀ .prepared))) 0 (rowsIn (view r₀ .prepared))) (sym eo)
+      (ap₂ (λ (m : PackedRefs) (b : Bool). turnsFrom (view r₀) m b (length (rowsIn (view r₀ .prepared))) 0 (rowsIn (view r₀ .prepared))) (sym em) (sym eo)
       ∙ sym (t .whole)
       ∙ ap (λ (j : Judged). outcomeBy j (rowsIn (view r₁ .prepared))) e)
 

@@ -90,13 +90,13 @@ abbrev modelled : Store → PackedRefs → List Edit → Outcome Prepared
 modelled s mode split =
     oneNameOneEdit s split
     >> (opening s mode split
-    >>= λ opened. turnsFrom s opened (length split) 0 split
+    >>= λ opened. turnsFrom s mode opened (length split) 0 split
     >>= λ rows. refuseIf (ltb 1024 (length (s .lines) + length (dueLines s rows))) LogFull >> pass (under mode rows))
 
 split-same : (s : Store) (mode : PackedRefs) (split : List Edit) → modelled s mode split ≡ (splitJudged s mode split >>= λ rows. pass (under mode rows))
 unfolding opening splitJudged namesJudged turnsJudged
 split-same s mode split =
-    chain (opens s mode split) (λ (o : Bool). turnsFrom s o (length split) 0 split)
+    chain (opens s mode split) (λ (o : Bool). turnsFrom s mode o (length split) 0 split)
     (λ (rows : List Edit). ltb 1024 (length (s .lines) + length (dueLines s rows))) mode
     (oneNameOneEdit s split) (any (counts s) split && isLock Foreign (s .packedLock))
 

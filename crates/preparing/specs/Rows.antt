@@ -31,10 +31,10 @@ use Rattle.writers.specs.Taken.{outcomeBy}
 unfoldable pub namesJudged : Store → List Edit → Outcome (Unit {0})
 namesJudged s rows = oneNameOneEdit s rows >> refuseIf (any (counts s) rows && isLock Foreign (s .packedLock)) PackedTransactionAcquire
 
--- row by row 8 before 9 to 13, then 14
+-- row by row 25 before 8 before 9 to 13, then 14
 unfoldable pub turnsJudged : Store → PackedRefs → List Edit → Outcome (List Edit)
 turnsJudged s mode split = do
-  rows ← turnsFrom s (opens s mode split) (length split) 0 split
+  rows ← turnsFrom s mode (opens s mode split) (length split) 0 split
   refuseIf (ltb 1024 (length (s .lines) + length (dueLines s rows))) LogFull
   pass rows
 

@@ -61,14 +61,15 @@ fn judge_names(region: &[u8]) -> Judged
     Judged::Passed
 }
 
-// 8 before 9 to 13, row by row; then 14.
+// 25 before 8 before 9 to 13, row by row; then 14.
 fn judge_turns(region: &mut [u8]) -> Judged
     requires { ⌜ Laid (now region) ⌝ }
     requires { ⌜ Upward (length (rowsIn (view (now region) .prepared))) (rowsIn (view (now region) .prepared)) ⌝ }
     ensures { λ r. ⌜ Taken (now (region .entry)) (now (region .exit)) r (turnsJudged (view (now (region .entry))) (modeIn (view (now (region .entry)) .prepared)) (rowsIn (view (now (region .entry)) .prepared))) ⌝ }
 {
     let opened = kept::opens_table(region);
-    let turned = turns::take_turns(region, opened);
+    let mode = region::mode(region);
+    let turned = turns::take_turns(region, mode, opened);
     let Judged::Passed = turned else {
         return turned;
     };

@@ -10,16 +10,18 @@ use Rattle.target.specs.declared.NameNumber.{NameNumber}
 use Rattle.target.specs.declared.OptionTarget.{OptionTarget}
 use Rattle.transaction.specs.declared.ParentIndex.{ParentIndex}
 use Rattle.transaction.specs.declared.ParentIndex.the-variants.{NoParent, Parent}
+use Rattle.transaction.specs.declared.PackedRefs.{PackedRefs}
 use Rattle.transaction.specs.declared.Edit.{Edit}
 use Rattle.model.specs.declared.Judged.{Judged}
 use Rattle.model.specs.declared.Judged.the-variants.{Passed, Refused}
 use Rattle.model.specs.declared.Lock.{Lock}
 use Rattle.model.specs.declared.Lock.the-variants.{Foreign}
 use Rattle.model.specs.declared.Refusal.{Refusal}
-use Rattle.model.specs.declared.Refusal.the-variants.{LockAcquire}
+use Rattle.model.specs.declared.Refusal.the-variants.{LockAcquire, NameConflict}
 use Rattle.model.specs.Basic.{lastOr}
 use Rattle.model.specs.Store.{Store, Entry, noEntry, count, entryOf, rowsIn, isLock, withPrepared, withRows}
 use Rattle.model.specs.Rows.{nameIn, changeIn, rowAt, topmost}
+use Rattle.model.specs.Beneath.{conflicts}
 use Rattle.model.specs.Outcome.{Outcome, _>>=_, _>>_}
 use Rattle.model.specs.Outcome.Outcome.{refuse, pass}
 use Rattle.model.specs.Judge.{judge}
@@ -69,36 +71,46 @@ module _ (rows : List Edit) (i : ℕ) (x : Edit) (ex : x ≡ rowAt rows i) where
 
 -- ---- the tests
 
--- x is the row at place i, b whether its name's lock is foreign
-module _ (s : Store) (opened : Bool) (rows : List Edit) (i : ℕ) (x : Edit) (ex : x ≡ rowAt rows i)
-    (b : Bool) (eb : b ≡ isLock Foreign (entryOf s (x .update .name) .lock)) where
-  held-here : (t : Bool) → b ≡ t → isLock Foreign (entryOf s (nameIn (rowAt rows i)) .lock) ≡ t
-  held-here t e = ap (λ (r : Edit). isLock Foreign (entryOf s (nameIn r) .lock)) (sym ex) ∙ sym eb ∙ e
+-- x is the row at place i, v its existing value, a whether 25 refuses it, b whether its name's lock is foreign
+module _ (s : Store) (mode : PackedRefs) (opened : Bool) (rows : List Edit) (i : ℕ) (x : Edit) (ex : x ≡ rowAt rows i)
+    (v : OptionTarget) (ev : v ≡ existing s opened x) (a : Bool) (ea : a ≡ conflicts s mode rows i v) where
+  existing-here : existing s opened (rowAt rows i) ≡ v
+  existing-here = ap (existing s opened) (sym ex) ∙ sym ev
 
-  pub turn-held : (top : NameNumber) → b ≡ true → top ≡ topmost rows i → refuse (LockAcquire top) ≡ firstRefusal (turnTests s opened rows i)
-  turn-held top t f = rw (held-here true t, f)
+  conflict-here : (t : Bool) → a ≡ t → conflicts s mode rows i (existing s opened (rowAt rows i)) ≡ t
+  conflict-here t e = ap (conflicts s mode rows i) existing-here ∙ sym ea ∙ e
 
-  pub turn-judged : (v : OptionTarget) (j : Judged) → b ≡ false → v ≡ existing s opened x
-      → judgedOption j ≡ judge (x .update .name) (x .update .change) v → outcomeBy j tt ≡ firstRefusal (turnTests s opened rows i)
-  turn-judged v j t f g =
-      let k : judge (nameIn (rowAt rows i)) (changeIn (rowAt rows i)) (existing s opened (rowAt rows i)) ≡ judgedOption j =
-      ap (λ (r : Edit). judge (nameIn r) (changeIn r) (existing s opened r)) (sym ex) ∙ ap (judge (nameIn x) (changeIn x)) (sym f) ∙ sym g in
-      rw (held-here false t, k) (last j)
-    where
-      last : (j : Judged) → outcomeBy j tt ≡ firstRefusal (judgedOption j ∷ [])
-      last Passed = refl
-      last (Refused r) = refl
+  pub turn-nested : a ≡ true → refuse (NameConflict (x .update .name)) ≡ firstRefusal (turnTests s mode opened rows i)
+  turn-nested t = rw (conflict-here true t) (ap (λ (r : Edit). refuse (NameConflict (nameIn r))) ex)
+
+  module _ (u : a ≡ false) (b : Bool) (eb : b ≡ isLock Foreign (entryOf s (x .update .name) .lock)) where
+    held-here : (t : Bool) → b ≡ t → isLock Foreign (entryOf s (nameIn (rowAt rows i)) .lock) ≡ t
+    held-here t e = ap (λ (r : Edit). isLock Foreign (entryOf s (nameIn r) .lock)) (sym ex) ∙ sym eb ∙ e
+
+    pub turn-held : (top : NameNumber) → b ≡ true → top ≡ topmost rows i → refuse (LockAcquire top) ≡ firstRefusal (turnTests s mode opened rows i)
+    turn-held top t f = rw (conflict-here false u, held-here true t, f)
+
+    pub turn-judged : (j : Judged) → b ≡ false → judgedOption j ≡ judge (x .update .name) (x .update .change) v
+        → outcomeBy j tt ≡ firstRefusal (turnTests s mode opened rows i)
+    turn-judged j t g =
+        let k : judge (nameIn (rowAt rows i)) (changeIn (rowAt rows i)) (existing s opened (rowAt rows i)) ≡ judgedOption j =
+        ap (λ (r : Edit). judge (nameIn r) (changeIn r) (existing s opened r)) (sym ex) ∙ ap (judge (nameIn x) (changeIn x)) (sym ev) ∙ sym g in
+        rw (conflict-here false u, held-here false t, k) (last j)
+      where
+        last : (j : Judged) → outcomeBy j tt ≡ firstRefusal (judgedOption j ∷ [])
+        last Passed = refl
+        last (Refused r) = refl
 
 -- ---- one turn
 
-module _ (r : List ℕ) (opened : Bool) (i : ℕ) (j : Judged)
-    (h : outcomeBy j tt ≡ firstRefusal (turnTests (view r) opened (rowsIn (view r .prepared)) i)) where
+module _ (r : List ℕ) (mode : PackedRefs) (opened : Bool) (i : ℕ) (j : Judged)
+    (h : outcomeBy j tt ≡ firstRefusal (turnTests (view r) mode opened (rowsIn (view r .prepared)) i)) where
   -- the tests say what j says
   tests : (k : Judged) → j ≡ k → (m : List Edit)
-      → (outcomeBy k (tt {0}) >> pass m) ≡ (firstRefusal (turnTests (view r) opened (rowsIn (view r .prepared)) i) >> pass m)
+      → (outcomeBy k (tt {0}) >> pass m) ≡ (firstRefusal (turnTests (view r) mode opened (rowsIn (view r .prepared)) i) >> pass m)
   tests k e m = ap (λ (o : Outcome (Unit {0})). o >> pass m) (ap (λ (j : Judged). outcomeBy j tt) (sym e) ∙ h)
 
-  pub turn-refused : (q : Refusal) → Laid r → j ≡ Refused q → Taken r r j (turn (view r) opened (rowsIn (view r .prepared)) i)
+  pub turn-refused : (q : Refusal) → Laid r → j ≡ Refused q → Taken r r j (turn (view r) mode opened (rowsIn (view r .prepared)) i)
   unfolding turn
   turn-refused q l e =
       record {
@@ -109,7 +121,7 @@ module _ (r : List ℕ) (opened : Bool) (i : ℕ) (j : Judged)
 
   pub turn-passed : (r′ : List ℕ) → i < length (rowsIn (view r .prepared)) → j ≡ Passed
       → Became r′ (withRows (view r) (turned (view r) opened (rowsIn (view r .prepared)) i))
-      → Taken r r′ Passed (turn (view r) opened (rowsIn (view r .prepared)) i)
+      → Taken r r′ Passed (turn (view r) mode opened (rowsIn (view r .prepared)) i)
   unfolding turn
   turn-passed r′ l e b =
       let n : rowsIn (view r′ .prepared) ≡ turned (view r) opened (rowsIn (view r .prepared)) i = rows-seen r r′ i _ l b in
@@ -118,19 +130,19 @@ module _ (r : List ℕ) (opened : Bool) (i : ℕ) (j : Judged)
 -- ---- the turns
 
 -- i turns of n are taken: what is left of them, on the rows as they are, comes to what all of them come to
-pub record Far (r₀ : List ℕ) (opened : Bool) (n i : ℕ) (r : List ℕ) : Type 0 where
+pub record Far (r₀ : List ℕ) (mode : PackedRefs) (opened : Bool) (n i : ℕ) (r : List ℕ) : Type 0 where
   pub laid : Laid r
   pub same : length r ≡ length r₀
   pub upto : i ≤ n
   pub many : length (rowsIn (view r .prepared)) ≡ n
   pub upward : Upward (length (rowsIn (view r .prepared))) (rowsIn (view r .prepared))
   pub seen : view r ≡ withRows (view r₀) (rowsIn (view r .prepared))
-  pub whole : turnsFrom (view r₀) opened (n - i) i (rowsIn (view r .prepared))
-      ≡ turnsFrom (view r₀) opened (length (rowsIn (view r₀ .prepared))) 0 (rowsIn (view r₀ .prepared))
+  pub whole : turnsFrom (view r₀) mode opened (n - i) i (rowsIn (view r .prepared))
+      ≡ turnsFrom (view r₀) mode opened (length (rowsIn (view r₀ .prepared))) 0 (rowsIn (view r₀ .prepared))
 
-pub far-start : (r : List ℕ) (opened : Bool) (n : ℕ) → Laid r → Upward (length (rowsIn (view r .prepared))) (rowsIn (view r .prepared))
-    → n ≡ length (rowsIn (view r .prepared)) → Far r opened n 0 r
-far-start r opened n l w e =
+pub far-start : (r : List ℕ) (mode : PackedRefs) (opened : Bool) (n : ℕ) → Laid r → Upward (length (rowsIn (view r .prepared))) (rowsIn (view r .prepared))
+    → n ≡ length (rowsIn (view r .prepared)) → Far r mode opened n 0 r
+far-start r mode opened n l w e =
     let z : n - 0 ≡ length (rowsIn (view r .prepared)) = omega arith in
     record {
       laid = l;
@@ -139,11 +151,11 @@ far-start r opened n l w e =
       many = sym e;
       upward = w;
       seen = own-rows (view r);
-      whole = ap (λ (k : ℕ). turnsFrom (view r) opened k 0 (rowsIn (view r .prepared))) z;
+      whole = ap (λ (k : ℕ). turnsFrom (view r) mode opened k 0 (rowsIn (view r .prepared))) z;
     }
 
-module _ (r₀ r r′ : List ℕ) (opened : Bool) (n i : ℕ) (f : Far r₀ opened n i r) (h : i < n) (j : Judged)
-    (t : Taken r r′ j (turn (view r) opened (rowsIn (view r .prepared)) i)) where
+module _ (r₀ r r′ : List ℕ) (mode : PackedRefs) (opened : Bool) (n i : ℕ) (f : Far r₀ mode opened n i r) (h : i < n) (j : Judged)
+    (t : Taken r r′ j (turn (view r) mode opened (rowsIn (view r .prepared)) i)) where
   both-seen : view r′ ≡ withRows (view r₀) (rowsIn (view r′ .prepared))
   both-seen =
       t .seen
@@ -152,23 +164,23 @@ module _ (r₀ r r′ : List ℕ) (opened : Bool) (n i : ℕ) (f : Far r₀ open
 
   -- what this turn says, and then those behind it
   both-whole : (k : Judged) → j ≡ k
-      → (outcomeBy k (rowsIn (view r′ .prepared)) >>= λ next. turnsFrom (view r₀) opened (n - (i + 1)) (i + 1) next)
-      ≡ turnsFrom (view r₀) opened (length (rowsIn (view r₀ .prepared))) 0 (rowsIn (view r₀ .prepared))
+      → (outcomeBy k (rowsIn (view r′ .prepared)) >>= λ next. turnsFrom (view r₀) mode opened (n - (i + 1)) (i + 1) next)
+      ≡ turnsFrom (view r₀) mode opened (length (rowsIn (view r₀ .prepared))) 0 (rowsIn (view r₀ .prepared))
   unfolding turnsFrom
   both-whole k e =
       let m : suc (n - (i + 1)) ≡ n - i = omega arith in
-      ap (λ (o : Outcome (List Edit)). o >>= λ next. turnsFrom (view r₀) opened (n - (i + 1)) (i + 1) next)
+      ap (λ (o : Outcome (List Edit)). o >>= λ next. turnsFrom (view r₀) mode opened (n - (i + 1)) (i + 1) next)
       (ap (λ (j : Judged). outcomeBy j (rowsIn (view r′ .prepared))) (sym e)
       ∙ t .whole
-      ∙ ap (λ (s : Store). turn s opened (rowsIn (view r .prepared)) i) (f .seen)
-      ∙ same-turn (view r₀) _ opened (rowsIn (view r .prepared)) i)
-      ∙ ap (λ (k : ℕ). turnsFrom (view r₀) opened k i (rowsIn (view r .prepared))) m
+      ∙ ap (λ (s : Store). turn s mode opened (rowsIn (view r .prepared)) i) (f .seen)
+      ∙ same-turn (view r₀) _ mode opened (rowsIn (view r .prepared)) i)
+      ∙ ap (λ (k : ℕ). turnsFrom (view r₀) mode opened k i (rowsIn (view r .prepared))) m
       ∙ f .whole
 
-  pub far-more : length r′ ≡ length r → j ≡ Passed → Far r₀ opened n (i + 1) r′
+  pub far-more : length r′ ≡ length r → j ≡ Passed → Far r₀ mode opened n (i + 1) r′
   far-more el e =
       let a : Alike (rowsIn (view r′ .prepared)) (rowsIn (view r .prepared)) =
-      turn-alike (view r) opened i _ _ (sym (t .whole) ∙ ap (λ (j : Judged). outcomeBy j (rowsIn (view r′ .prepared))) e) in
+      turn-alike (view r) mode opened i _ _ (sym (t .whole) ∙ ap (λ (j : Judged). outcomeBy j (rowsIn (view r′ .prepared))) e) in
       record {
         laid = t .laid;
         same = el ∙ f .same;
@@ -180,7 +192,7 @@ module _ (r₀ r r′ : List ℕ) (opened : Bool) (n i : ℕ) (f : Far r₀ open
       }
 
   pub far-stop : (q : Refusal) → j ≡ Refused q
-      → Taken r₀ r′ j (turnsFrom (view r₀) opened (length (rowsIn (view r₀ .prepared))) 0 (rowsIn (view r₀ .prepared)))
+      → Taken r₀ r′ j (turnsFrom (view r₀) mode opened (length (rowsIn (view r₀ .prepared))) 0 (rowsIn (view r₀ .prepared)))
   far-stop q e =
       record {
         laid = t .laid;
@@ -188,13 +200,13 @@ module _ (r₀ r r′ : List ℕ) (opened : Bool) (n i : ℕ) (f : Far r₀ open
         whole = ap (λ (j : Judged). outcomeBy j (rowsIn (view r′ .prepared))) e ∙ both-whole (Refused q) e;
       }
 
-pub far-end : (r₀ r : List ℕ) (opened : Bool) (n i : ℕ) → Far r₀ opened n i r → n ≤ i
-    → Taken r₀ r Passed (turnsFrom (view r₀) opened (length (rowsIn (view r₀ .prepared))) 0 (rowsIn (view r₀ .prepared)))
+pub far-end : (r₀ r : List ℕ) (mode : PackedRefs) (opened : Bool) (n i : ℕ) → Far r₀ mode opened n i r → n ≤ i
+    → Taken r₀ r Passed (turnsFrom (view r₀) mode opened (length (rowsIn (view r₀ .prepared))) 0 (rowsIn (view r₀ .prepared)))
 unfolding turnsFrom
-far-end r₀ r opened n i f h =
+far-end r₀ r mode opened n i f h =
     let k : 0 ≡ n - i = omega arith in
     record {
       laid = f .laid;
       seen = f .seen;
-      whole = ap (λ (k : ℕ). turnsFrom (view r₀) opened k i (rowsIn (view r .prepared))) k ∙ f .whole;
+      whole = ap (λ (k : ℕ). turnsFrom (view r₀) mode opened k i (rowsIn (view r .prepared))) k ∙ f .whole;
     }

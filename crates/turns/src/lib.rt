@@ -1,5 +1,5 @@
 // R3 to R5, row by row, on the region's own table: the port of gix-ref's src/store/file/transaction/prepare.rs. A row's turn is judged
-// (8, then 9 to 13), then what was found replaces what was expected, and its object goes to the row's ancestors.
+// (25, then 8, then 9 to 13), then what was found replaces what was expected, and its object goes to the row's ancestors.
 ghost use mathlib.Core.Path.{_≡_};
 ghost use Prim.Native.Nat.{_<_};
 ghost use lib.ListN.{length, set};
@@ -21,6 +21,7 @@ use target::OptionTarget;
 use target::Target;
 use transaction::Change;
 use transaction::Edit;
+use transaction::PackedRefs;
 use transaction::ParentIndex;
 use transaction::PreviousValue;
 use transaction::RefEdit;
@@ -266,33 +267,36 @@ fn topmost_of(region: &[u8], i: usize) -> NameNumber
     topmost_of(region, p)
 }
 
-// 8, then 9 to 13.
-fn judge_turn(region: &[u8], i: usize, opened: bool) -> Judged
+// 25, then 8, then 9 to 13.
+fn judge_turn(region: &[u8], i: usize, mode: PackedRefs, opened: bool) -> Judged
     requires { ⌜ Laid (now region) ⌝ }
     requires { ⌜ i < length (rowsIn (view (now region) .prepared)) ⌝ }
     requires { ⌜ Upward (length (rowsIn (view (now region) .prepared))) (rowsIn (view (now region) .prepared)) ⌝ }
-    ensures { λ r. ⌜ outcomeBy r tt ≡ firstRefusal (turnTests (view (now (region .entry))) opened (rowsIn (view (now (region .entry)) .prepared)) i) ⌝ }
+    ensures { λ r. ⌜ outcomeBy r tt ≡ firstRefusal (turnTests (view (now (region .entry))) mode opened (rowsIn (view (now (region .entry)) .prepared)) i) ⌝ }
 {
     let row = region::row_at(region, i);
     let update = row.update;
     let name = update.name;
+    let existing = steps::value_of(region, opened, name);
+    if beneath::conflicts(region, mode, i, existing) {
+        return Judged::Refused(Refusal::NameConflict(name));
+    }
     if held_by_others(region, name) {
         let top = topmost_of(region, i);
         return Judged::Refused(Refusal::LockAcquire(top));
     }
-    let existing = steps::value_of(region, opened, name);
     let change = update.change;
     judge_change(name, change, existing)
 }
 
 // A row's turn.
-fn lock_ref_and_apply_change(region: &mut [u8], i: usize, opened: bool) -> Judged
+fn lock_ref_and_apply_change(region: &mut [u8], i: usize, mode: PackedRefs, opened: bool) -> Judged
     requires { ⌜ Laid (now region) ⌝ }
     requires { ⌜ i < length (rowsIn (view (now region) .prepared)) ⌝ }
     requires { ⌜ Upward (length (rowsIn (view (now region) .prepared))) (rowsIn (view (now region) .prepared)) ⌝ }
-    ensures { λ r. ⌜ Taken (now (region .entry)) (now (region .exit)) r (turn (view (now (region .entry))) opened (rowsIn (view (now (region .entry)) .prepared)) i) ⌝ }
+    ensures { λ r. ⌜ Taken (now (region .entry)) (now (region .exit)) r (turn (view (now (region .entry))) mode opened (rowsIn (view (now (region .entry)) .prepared)) i) ⌝ }
 {
-    let judged = judge_turn(region, i, opened);
+    let judged = judge_turn(region, i, mode, opened);
     let Judged::Passed = judged else {
         return judged;
     };
@@ -301,15 +305,15 @@ fn lock_ref_and_apply_change(region: &mut [u8], i: usize, opened: bool) -> Judge
 }
 
 // All turns, in order, up to the first refusal.
-pub fn take_turns(region: &mut [u8], opened: bool) -> Judged
+pub fn take_turns(region: &mut [u8], mode: PackedRefs, opened: bool) -> Judged
     requires { ⌜ Laid (now region) ⌝ }
     requires { ⌜ Upward (length (rowsIn (view (now region) .prepared))) (rowsIn (view (now region) .prepared)) ⌝ }
-    ensures { λ r. ⌜ Taken (now (region .entry)) (now (region .exit)) r (turnsFrom (view (now (region .entry))) opened (length (rowsIn (view (now (region .entry)) .prepared))) 0 (rowsIn (view (now (region .entry)) .prepared))) ⌝ }
+    ensures { λ r. ⌜ Taken (now (region .entry)) (now (region .exit)) r (turnsFrom (view (now (region .entry))) mode opened (length (rowsIn (view (now (region .entry)) .prepared))) 0 (rowsIn (view (now (region .entry)) .prepared))) ⌝ }
 {
     let count = region::count_rows(region);
     let mut i: usize = 0;
     while i < count {
-        let judged = lock_ref_and_apply_change(region, i, opened);
+        let judged = lock_ref_and_apply_change(region, i, mode, opened);
         let Judged::Passed = judged else {
             return judged;
         };

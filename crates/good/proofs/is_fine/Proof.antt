@@ -1,5 +1,6 @@
 use borrow.Author.Needs.{needs}
-use Rattle.good.proofs.Laws.{names-fail, lines-fail, rows-fail, locks-fail, room-decides}
+use Rattle.rows.proofs.Named.{rows-named}
+use Rattle.good.proofs.Laws.{names-fail, lines-fail, rows-fail, locks-fail, room-fails, nests-decide}
 use Rattle.good.proofs.is_fine.Statement.{statement}
 use Rattle.good.proofs.is_fine.Tie as tie
 
@@ -31,7 +32,15 @@ room-fine-requires : tie.Need-room-fine-requires
 room-fine-requires c κs = search needs
 
 returns-5 : tie.Need-returns-5
-returns-5 c = search room-decides
+returns-5 c = search room-fails
+
+nests-fine-requires : tie.Need-nests-fine-requires
+nests-fine-requires c κs =
+    let rows = c .before .before .before .before in
+    (search needs, rows-named _ _ (rows .before .rows-fine .ensures) (rows .if3 .left))
+
+returns-6 : tie.Need-returns-6
+returns-6 c = search nests-decide
 
 pub is-fine-spec : {M : Type 1} → statement M
 is-fine-spec =
@@ -46,4 +55,6 @@ is-fine-spec =
     locks-fine-requires
     returns-4
     room-fine-requires
-    returns-5)
+    returns-5
+    nests-fine-requires
+    returns-6)

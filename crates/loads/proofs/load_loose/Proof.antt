@@ -1,7 +1,7 @@
 use borrow.Author.Needs.{needs}
 use Rattle.calls.proofs.Replies.{good-laid, bad-region}
 use Rattle.calls.proofs.Known.{near}
-use Rattle.loads.proofs.Laws.{loose-busy, loose-far, loose-stray, loose-bad, loose-room, loose-done}
+use Rattle.loads.proofs.Laws.{loose-busy, loose-far, loose-stray, loose-bad, loose-nested, loose-room, loose-done}
 use Rattle.loads.proofs.load_loose.Statement.{statement}
 use Rattle.loads.proofs.load_loose.Tie as tie
 
@@ -77,10 +77,8 @@ same-length-5 c = search needs
 returns-5 : tie.Need-returns-5
 returns-5 c = search loose-bad
 
-put-loose-at-requires : tie.Need-put-loose-at-requires
-put-loose-at-requires c κs =
-    let named = c .before .before .before .before .before .before .before .before .before in
-    (search good-laid, (near _ _ _ _ (named .before .before .known .ensures) (named .n .given .1), search loose-room))
+is-nested-requires : tie.Need-is-nested-requires
+is-nested-requires c κs = search good-laid
 
 bare-requires-4 : tie.Need-bare-requires-4
 bare-requires-4 c κs = search needs
@@ -89,7 +87,21 @@ same-length-6 : tie.Need-same-length-6
 same-length-6 c = search needs
 
 returns-6 : tie.Need-returns-6
-returns-6 c = search loose-done
+returns-6 c = search loose-nested
+
+put-loose-at-requires : tie.Need-put-loose-at-requires
+put-loose-at-requires c κs =
+    let named = c .before .before .before .before .before .before .before .before .before .before .before .before in
+    (search good-laid, (near _ _ _ _ (named .before .before .known .ensures) (named .n .given .1), search loose-room))
+
+bare-requires-5 : tie.Need-bare-requires-5
+bare-requires-5 c κs = search needs
+
+same-length-7 : tie.Need-same-length-7
+same-length-7 c = search needs
+
+returns-7 : tie.Need-returns-7
+returns-7 c = search loose-done
 
 pub load-loose-spec : {M : Type 1} → statement M
 load-loose-spec =
@@ -119,7 +131,11 @@ load-loose-spec =
     bare-requires-3
     same-length-5
     returns-5
-    put-loose-at-requires
+    is-nested-requires
     bare-requires-4
     same-length-6
-    returns-6)
+    returns-6
+    put-loose-at-requires
+    bare-requires-5
+    same-length-7
+    returns-7)

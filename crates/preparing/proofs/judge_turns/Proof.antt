@@ -6,6 +6,9 @@ use Rattle.preparing.proofs.judge_turns.Tie as tie
 opens-table-requires : tie.Need-opens-table-requires
 opens-table-requires c κs = search needs
 
+mode-requires : tie.Need-mode-requires
+mode-requires c κs = search needs
+
 take-turns-requires : tie.Need-take-turns-requires
 take-turns-requires c κs = search needs
 
@@ -41,6 +44,7 @@ judge-turns-spec =
     tie.close
     (tie.spec
     opens-table-requires
+    mode-requires
     take-turns-requires
     enum-told
     enum-told-2

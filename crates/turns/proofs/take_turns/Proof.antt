@@ -6,10 +6,10 @@ use Rattle.turns.proofs.take_turns.Statement.{statement}
 use Rattle.turns.proofs.take_turns.Tie as tie
 
 abbrev Inv-loop : tie.InvT-loop
-Inv-loop region₀ opened count i₀ region i = Far region₀ opened count i region
+Inv-loop region₀ mode opened count i₀ region i = Far region₀ mode opened count i region
 
 abbrev μ-loop : tie.MeasureT-loop
-μ-loop region₀ opened count i₀ region i = count - i
+μ-loop region₀ mode opened count i₀ region i = count - i
 
 count-rows-requires : tie.Need-count-rows-requires Inv-loop μ-loop
 count-rows-requires c κs = search needs

@@ -187,6 +187,12 @@ enum-told-14 c = search needs
 bare-requires-14 : tie.Need-bare-requires-14
 bare-requires-14 c κs = search needs
 
+enum-known-refusal-9 : tie.Need-enum-known-refusal-9
+enum-known-refusal-9 c = search needs
+
+named-requires-5 : tie.Need-named-requires-5
+named-requires-5 c κs = search needs
+
 -- src/lib.rt:148:38
 enum-told-15 : tie.Need-enum-told-15
 enum-told-15 c = search needs
@@ -308,7 +314,11 @@ returns-22 c = told _ _ _ (c .before .enum-told14 .given .1) (c .bare14 .ensures
 -- src/lib.rt:122:5
 returns-23 : tie.Need-returns-23
 unfolding refusalAnswer
-returns-23 c = told _ _ _ (c .before .enum-told15 .given .1) (c .bare15 .ensures)
+returns-23 c = told _ _ _ (c .before .before .refusal9 .given .1) (c .named5 .ensures)
+
+returns-24 : tie.Need-returns-24
+unfolding refusalAnswer
+returns-24 c = told _ _ _ (c .before .enum-told15 .given .1) (c .bare15 .ensures)
 
 pub refusal-spec : {M : Type 1} → statement M
 refusal-spec =
@@ -358,6 +368,8 @@ refusal-spec =
     bare-requires-13
     enum-told-14
     bare-requires-14
+    enum-known-refusal-9
+    named-requires-5
     enum-told-15
     bare-requires-15
     returns
@@ -382,4 +394,5 @@ refusal-spec =
     returns-20
     returns-21
     returns-22
-    returns-23)
+    returns-23
+    returns-24)

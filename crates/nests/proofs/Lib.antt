@@ -1,0 +1,4 @@
+pub mod Raising
+pub mod Sizes
+pub mod Rows
+pub mod Laws
