@@ -1,6 +1,6 @@
 // Makes the regions that crates/show is shown on, by the calls and nothing else; the damaged ones are then changed by hand.
 //   make DIRECTORY
-// writes into it good, prepared, and four that are not good: version, slot, rules and rows.
+// writes into it good, prepared, and five that are not good: version, slot, rules, rows and nested.
 #include "dehlbazin.h"
 
 #include <algorithm>
@@ -172,6 +172,15 @@ static void make_prepared()
             DEHLBAZIN_MODE_UPDATES);
 }
 
+// Names beneath names: packed values, and rows that go straight to the packed table.
+static void make_nested()
+{
+    must_be_done(dehlbazin_start(region.data(), region.size(), DEHLBAZIN_SETTING_NORMAL, answer.data(), answer.size()), "start");
+    loose("refs/heads/dock", DEHLBAZIN_KIND_OBJECT, 5);
+    packed("refs/heads/dock/left", 6);
+    prepare({update("refs/heads/hall", 7), update("refs/heads/hall/left", 8)}, DEHLBAZIN_MODE_UPDATES_REMOVE_LOOSE);
+}
+
 static void save(const std::string &path)
 {
     std::FILE *file = std::fopen(path.c_str(), "wb");
@@ -211,5 +220,9 @@ int main(int count, char **words)
     for (size_t i = 1; i < 1024; i++)
         std::copy(&region[27021], &region[27021 + 22], &region[27021 + 22 * i]);
     save(directory + "rows");
+    make_nested();
+    region[16653 + 9 * 1] = DEHLBAZIN_KIND_BROKEN; // name 1, beneath name 0, has a loose value too
+    region[10] = DEHLBAZIN_MODE_DELETIONS;         // and both rows would now write one
+    save(directory + "nested");
     return 0;
 }

@@ -6,7 +6,7 @@ use lines::Line;
 use notes::Note;
 use notes::Notes;
 
-pub const STAGES: u64 = 1308;
+pub const STAGES: u64 = 1310;
 
 // A call, the number that it is to return, and place 0 of its record. The other places are 0.
 fn is(notes: &mut Notes, call: u64, a: u64, b: u64, c: u64, returns: u64, place: u64) {
@@ -298,6 +298,90 @@ fn alike_names(line: &mut Line, notes: &mut Notes) {
     reads(notes, 0);
 }
 
+// ---- names beneath names
+
+fn load(notes: &mut Notes, name: u64, kind: u64, of: u64, returns: u64) {
+    is(notes, Call::LOAD_LOOSE, name, kind, of, returns, 0);
+}
+
+// Name 2 lies beneath name 1, and name 3 only begins alike. In the end name 2 has a loose value.
+fn nested_loads(line: &mut Line, notes: &mut Notes) {
+    start_head(line, notes);
+    add(line, 16, b"refs/heads/a", notes, 0, 1);
+    add(line, 32, b"refs/heads/a/b", notes, 0, 2);
+    add(line, 48, b"refs/heads/ab", notes, 0, 3);
+    load(notes, 1, 3, 0, 0);
+    load(notes, 2, 1, 7, 21);
+    load(notes, 2, 0, 0, 0);
+    load(notes, 3, 1, 7, 0);
+    load(notes, 1, 0, 0, 0);
+    load(notes, 2, 1, 7, 0);
+    load(notes, 1, 1, 7, 21);
+}
+
+fn put_name(notes: &mut Notes, edit: u64, name: u64) {
+    notes::set_field(notes, 9, name);
+    notes::put_edit(notes, edit);
+}
+
+fn roll_back(notes: &mut Notes, rows: u64) {
+    is(notes, Call::ROLLBACK, 0, 0, 0, 0, rows);
+}
+
+// 25: name 1 would get a loose value above that of name 2.
+fn over_loose(notes: &mut Notes) {
+    put_update(notes, 1, 9);
+    put_name(notes, 0, 1);
+    is(notes, Call::PREPARE, 1, 1, 0, 25, 1);
+}
+
+// It would not where it has that value packed.
+fn over_unchanged(notes: &mut Notes) {
+    packed(notes, 1, 1, 0);
+    put_update(notes, 1, 7);
+    put_name(notes, 0, 1);
+    is(notes, Call::PREPARE, 1, 1, 0, 0, 1);
+    roll_back(notes, 1);
+}
+
+// Nor where it is deleted.
+fn over_deleted(notes: &mut Notes) {
+    put_update(notes, 0, 0);
+    notes::set_field(notes, 0, 2);
+    put_name(notes, 0, 1);
+    is(notes, Call::PREPARE, 1, 1, 0, 0, 1);
+    roll_back(notes, 1);
+    load(notes, 2, 0, 0, 0);
+}
+
+fn both(notes: &mut Notes, mode: u64, returns: u64, place: u64) {
+    put_update(notes, 1, 9);
+    put_name(notes, 0, 1);
+    put_name(notes, 1, 2);
+    is(notes, Call::PREPARE, 2, mode, 0, returns, place);
+}
+
+// Two rows that go straight to the packed table. Under mode 1 each would write a loose value, and such a region is not good.
+fn both_direct(notes: &mut Notes) {
+    both(notes, 3, 0, 2);
+    reads(notes, 0);
+    asks::put(notes, 10, 1, 1);
+    reads(notes, 1);
+    asks::put(notes, 10, 1, 3);
+    roll_back(notes, 2);
+}
+
+// Nor is one with a row beneath a loose value, here a broken one.
+fn row_beneath(notes: &mut Notes) {
+    put_update(notes, 1, 9);
+    put_name(notes, 0, 2);
+    is(notes, Call::PREPARE, 1, 3, 0, 0, 1);
+    asks::put(notes, 16653 + 9, 1, 3);
+    reads(notes, 1);
+    asks::put(notes, 16653 + 9, 1, 0);
+    roll_back(notes, 1);
+}
+
 // ---- 256 names
 
 fn letter(i: u64) -> u8 {
@@ -359,14 +443,21 @@ fn regions(stage: u64, line: &mut Line, region: &Region, notes: &mut Notes) {
         1040 => prepare_chain(notes),
         1041 => ancestors(region, notes),
         1042 => alike_names(line, notes),
+        1043 => nested_loads(line, notes),
+        1044 => over_loose(notes),
+        1045 => over_unchanged(notes),
+        1046 => over_deleted(notes),
+        1047 => both(notes, 1, 25, 2),
+        1048 => both_direct(notes),
+        1049 => row_beneath(notes),
         _ => start(notes, 0),
     }
 }
 
 fn many_names(stage: u64, line: &mut Line, notes: &mut Notes) {
     match stage {
-        1050..=1305 => add_many(line, stage - 1050, notes),
-        1306 => full_names(line, notes),
+        1052..=1307 => add_many(line, stage - 1052, notes),
+        1308 => full_names(line, notes),
         _ => names_257(notes),
     }
 }
@@ -380,7 +471,7 @@ pub fn plan(stage: u64, line: &mut Line, region: &Region, notes: &mut Notes) {
         lists(stage, notes);
     } else if stage < 1036 {
         log_line(notes, 1035 - stage);
-    } else if stage < 1050 {
+    } else if stage < 1052 {
         regions(stage, line, region, notes);
     } else {
         many_names(stage, line, notes);
