@@ -35,10 +35,10 @@
 #include <stdint.h>
 
 /* ---- the version of this interface: of this header and of the archive's entries. Each part is below 1000, so that a later
- * version is a greater number: 0.5.0 is 5000, and 1.2.3 would be 1002003. #if can test it. */
+ * version is a greater number: 0.6.0 is 6000, and 1.2.3 would be 1002003. #if can test it. */
 
 #define DEHLBAZIN_VERSION_MAJOR 0
-#define DEHLBAZIN_VERSION_MINOR 5
+#define DEHLBAZIN_VERSION_MINOR 6
 #define DEHLBAZIN_VERSION_PATCH 0
 #define DEHLBAZIN_VERSION                                                                                                    \
     (DEHLBAZIN_VERSION_MAJOR * 1000000 + DEHLBAZIN_VERSION_MINOR * 1000 + DEHLBAZIN_VERSION_PATCH)
@@ -52,7 +52,7 @@
 #define DEHLBAZIN_REGION_SIZE 49549
 #define DEHLBAZIN_ANSWER_SIZE 128
 
-/* ---- the numbers that calls return. 4 to 14 are given by prepare alone, and 5 by nothing: no list comes to more than 160
+/* ---- the numbers that calls return. 4 to 14 and 25 are given by prepare alone, and 5 by nothing: no list comes to more than 160
  * rows. 16 and 17 are given by commit alone, which has then stopped before a write: they are no refusals. 23, 24 and 33 are given
  * by the four calls of the settings record alone. The numbers between are given by nothing. */
 
@@ -81,6 +81,7 @@
 #define DEHLBAZIN_NOTHING_THERE 22               /* there is no such log line, row or committer */
 #define DEHLBAZIN_MALFORMED_RECORD 23            /* a settings record is malformed, or settings are that no record can hold */
 #define DEHLBAZIN_UNKNOWN_VERSION 24             /* a settings record has a version that is not known */
+#define DEHLBAZIN_NAME_CONFLICT 25               /* a name above or beneath the row's has a loose value, or would get one */
 #define DEHLBAZIN_SHORT_BUFFER 33                /* the settings record is longer than the buffer */
 
 /* ---- settings: which names get log lines (docs/SPEC.md, due lines) */
@@ -91,7 +92,9 @@
 
 /* ---- kinds of a value. A loose value may be loaded with all four, a packed one with none or object. Reading a name, and
  * the targets of a row, give none, object or link. The number beside it is 0 with none and broken, an object's with
- * object, and a name's with link. */
+ * object, and a name's with link.
+ * A name lies beneath another, which is above it, if it begins with that one and a '/'. At most one of two such names has a loose
+ * value at a time, a broken one being one too. */
 
 #define DEHLBAZIN_KIND_NONE 0
 #define DEHLBAZIN_KIND_OBJECT 1
@@ -231,6 +234,8 @@
 
 #define DEHLBAZIN_DELETE_MUST_NOT_EXIST_NAME 0
 
+#define DEHLBAZIN_NAME_CONFLICT_NAME 0 /* the row's own name, which links may have led to */
+
 /* ---- places of the answer record, by the number of a stop of commit: how many writes were made before it */
 
 #define DEHLBAZIN_NO_COMMITTER_WRITES 0
@@ -276,7 +281,8 @@ uint32_t dehlbazin_name_bytes(const uint8_t *region, size_t region_len, uint64_t
 /* Sets the loose value of a name, whatever its lock.
  * kind: DEHLBAZIN_KIND_..; number: an object's with object, a name's with link, else 0.
  * refused: 15 a transaction is prepared; 3 no such name, or no such name to link to (place 0 the number, the name's
- * before the link's); 21 object 0, another kind, or a number beside none or broken.
+ * before the link's); 21 object 0, another kind, a number beside none or broken, or a value where a name above or beneath
+ * has a loose one.
  * places: none. */
 uint32_t dehlbazin_load_loose(uint8_t *region, size_t region_len, uint64_t name, uint64_t kind, uint64_t number,
                               uint8_t *answer, size_t answer_len);
@@ -320,7 +326,10 @@ uint32_t dehlbazin_unlock_packed(uint8_t *region, size_t region_len, uint8_t *an
  *   4 links are still followed in a fifth round;
  *   6 two rows have one name (place 0 it, or of several such names the least in byte order);
  *   7 a row counts for the packed table, whose lock is foreign;
- *   then row by row, the lock first:
+ *   then row by row, in this order:
+ *   25 a name above the row's has a loose value, whatever the row does; or the row would write a loose value, and a name
+ *   beneath has one, or an earlier row would write one too, above or beneath (place 0 the row's own name). Packed values play
+ *   no part, and the values are those before the transaction: so a name and one beneath it change places in two transactions;
  *   8 the name's lock is foreign (place 0 the name of the row's topmost ancestor, the edit that it came from);
  *   9 a delete that expects something finds nothing (place 0 the name);
  *   10 an update that expects nothing finds something else than its target (places 0 the name, 1 and 2 what is there, 3 and 4

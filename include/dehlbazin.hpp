@@ -244,6 +244,7 @@ enum class Reason : uint32_t {
     nothing_there = DEHLBAZIN_NOTHING_THERE,
     malformed_record = DEHLBAZIN_MALFORMED_RECORD,
     unknown_version = DEHLBAZIN_UNKNOWN_VERSION,
+    name_conflict = DEHLBAZIN_NAME_CONFLICT,
     short_buffer = DEHLBAZIN_SHORT_BUFFER,
 };
 
@@ -301,6 +302,7 @@ inline constexpr Word words[] = {
     {"nothing_there", "there is no such log line, row or committer"},
     {"malformed_record", "the settings record is malformed, or a setting is out of bounds"},
     {"unknown_version", "the settings record has a version that is not known"},
+    {"name_conflict", "a name above or beneath it has a loose value, or would get one"},
 };
 
 inline constexpr Word short_buffer = {"short_buffer", "the buffer is shorter than the settings record"};
@@ -332,8 +334,8 @@ public:
     uint32_t number() const { return answer_.number; }
     const char *reason_name() const { return detail::word_of(answer_.number).name; }
 
-    // The name that it is about: of 3 the number that is no name's, of 8 the name of the edit that led to the lock. None where
-    // a refusal is about no name.
+    // The name that it is about: of 3 the number that is no name's, of 8 the name of the edit that led to the lock, of 25 the name
+    // that the edit led to. None where a refusal is about no name.
     std::optional<NameNumber> name() const
     {
         switch (reason()) {
@@ -345,6 +347,7 @@ public:
         case Reason::must_exist:
         case Reason::reference_out_of_date:
         case Reason::delete_must_not_exist:
+        case Reason::name_conflict:
             return NameNumber(place(0));
         default:
             return std::nullopt;
@@ -1079,6 +1082,8 @@ public:
                              [](const detail::Answer &answer) { return NameNumber(answer.place(DEHLBAZIN_ADD_NAME_NUMBER)); });
     }
 
+    // Refused with 21 for object 0, and for a value where a name above or beneath has a loose one: where one of the two begins with
+    // the other and a '/'.
     Result<Done> load_loose(NameNumber name, const Loose &value)
     {
         return detail::given(change(dehlbazin_load_loose, name.number(), value.kind(), value.number()));

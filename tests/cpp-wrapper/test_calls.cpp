@@ -97,6 +97,14 @@ static void test_loads()
     refused(site.store.load_loose(aisle, object(0)), Reason::bad_load);
     refused(site.store.load_packed(aisle, ObjectNumber(0)), Reason::bad_load);
     refused(site.store.load_packed(head, ObjectNumber(1)), Reason::bad_load);
+    const NameNumber shelf = site.store.add_name("refs/heads/aisle/shelf").value();
+    done(site.store.load_loose(aisle, Loose::broken()));
+    for (const Loose &value : {Loose(object(5)), Loose(link(head)), Loose::broken()})
+        refused(site.store.load_loose(shelf, value), Reason::bad_load); // beneath a loose value
+    done(site.store.load_loose(shelf, Loose::none()));
+    done(site.store.load_loose(aisle, Loose::none()));
+    done(site.store.load_loose(shelf, object(5)));
+    refused(site.store.load_loose(aisle, object(5)), Reason::bad_load); // above one
     const auto transaction = site.store.prepare(EditList());
     refused(site.store.load_loose(aisle, object(5)), Reason::wrong_state);
     refused(site.store.load_packed(aisle, ObjectNumber(5)), Reason::wrong_state);
@@ -132,7 +140,7 @@ static void test_prepare()
     refused(store.prepare(EditList(), Mode(0)), Reason::malformed);
     refused(store.prepare(EditList(), Mode(uint64_t(1) << 32 | 1)), Reason::malformed); // not cut down to 1
     refuses({Update(aisle, object(0))}, Reason::malformed);
-    refuses({Update(NameNumber(3), object(1))}, Reason::not_registered, {3});
+    refuses({Update(NameNumber(3), object(1))}, Reason::not_registered, {3}); // which is added below
     refuses({Update(aisle, link(NameNumber(70000)))}, Reason::not_registered, {70000});
     refuses({Update(aisle, object(6)), Delete(aisle)}, Reason::multiple_edits, {1});
     refuses({Delete(tag).expecting(Expected::must_exist())}, Reason::delete_reference_must_exist, {2});
@@ -142,6 +150,13 @@ static void test_prepare()
     refuses({Update(head, object(6)).expecting(Expected::existing_must_match(object(9)))}, Reason::reference_out_of_date,
             {0, 1, 9, 2, 1});
     refuses({Delete(aisle).expecting(Expected::must_not_exist())}, Reason::delete_must_not_exist, {1});
+    const NameNumber shelf = store.add_name("refs/heads/aisle/shelf").value(); // beneath the aisle, which has a value
+    refuses({Delete(shelf)}, Reason::name_conflict, {3});
+    refuses({Update(shelf, object(6)).log_only()}, Reason::name_conflict, {3});
+    done(store.load_loose(aisle, Loose::none()));
+    done(store.load_loose(shelf, object(5)));
+    refuses({Update(head, object(6)).deref()}, Reason::name_conflict, {1}); // the row's own name, which HEAD led to
+    done(store.load_loose(shelf, Loose::none()));
     done(store.lock_name(aisle));
     refuses({Update(head, object(6)).deref()}, Reason::lock_acquire, {0});
     done(store.unlock_name(aisle));

@@ -34,9 +34,10 @@ static uint64_t some_object(Dice &dice) { return dice.once_in(30) ? ~uint64_t(0)
 
 static std::string some_name(Dice &dice)
 {
-    static const char *const good[] = {"HEAD",         "refs/heads/a", "refs/heads/b",    "refs/heads/c",
-                                       "refs/heads/d", "refs/tags/a",  "ORIG_HEAD",       "refs/bisect/x",
-                                       "refs/notes/n", "refs/x",       "refs/remotes/o/a"};
+    static const char *const good[] = {"HEAD",         "refs/heads/a", "refs/heads/b",     "refs/heads/c",
+                                       "refs/heads/d", "refs/tags/a",  "ORIG_HEAD",        "refs/bisect/x",
+                                       "refs/notes/n", "refs/x",       "refs/remotes/o/a", "refs/heads/a/e",
+                                       "refs/x/y",     "refs/x/y/z"};
     static const char *const bad[] = {"", "head", "refs/", "refs/a..b", "refs/a.lock"};
     return dice.once_in(12) ? dice.one_of(bad) : dice.one_of(good);
 }
@@ -233,7 +234,7 @@ void test_same(size_t calls, uint64_t seed)
         if (pair.refused())
             pair.turn_over(at, bits);
     }
-    pair.numbers.all_met("the calls", {0, 1, 2, 3, 4, 6, 7, 8, 9, 10, 11, 12, 13, 15, 16, 17, 18, 20, 21, 22, 23, 24});
+    pair.numbers.all_met("the calls", {0, 1, 2, 3, 4, 6, 7, 8, 9, 10, 11, 12, 13, 15, 16, 17, 18, 20, 21, 22, 23, 24, 25});
     for (size_t op = 0; op < OPS; op++)
         check(pair.done.given[op] > calls / 2000,
               "call " + std::to_string(op) + " was done " + std::to_string(pair.done.given[op]) + " times");

@@ -45,6 +45,9 @@ static void test_refusals()
     done(store.lock_name(tag));
     says(store, prepare(Delete(tag)), "refs/tags/spring: its lock is foreign, or that of a name that its links lead to",
          "name 2: its lock is foreign, or that of a name that its links lead to");
+    const NameNumber shelf = store.add_name("refs/heads/aisle/shelf").value();
+    says(store, prepare(Delete(shelf)), "refs/heads/aisle/shelf: a name above or beneath it has a loose value, or would get one",
+         "name 3: a name above or beneath it has a loose value, or would get one");
     says(store, store.read_name(NameNumber(65536)), "name 65536: no name has this number",
          "name 65536: no name has this number");
     says(store, prepare(Update(head, object(1)).deref()), "links are still followed in a fifth round",
@@ -90,8 +93,8 @@ static void test_names_of_numbers()
         check(std::strlen(detail::word_of(number).says) > 0, name + " has words");
         numbers.insert(number);
     }
-    check(numbers.size() == 26 && numbers.count(24) == 1 && *numbers.rbegin() == 33, "all numbers from 0 to 24, and 33");
-    for (uint32_t number : {25, 32, 34})
+    check(numbers.size() == 27 && numbers.count(25) == 1 && *numbers.rbegin() == 33, "all numbers from 0 to 25, and 33");
+    for (uint32_t number : {26, 32, 34})
         says(Refusal(Reason(number)).reason_name(), "unknown"); // of a later archive
     says(Refusal(Reason::too_many_rows).reason_name(), "too_many_rows");
     says(to_string(Refusal(Reason::too_many_rows)), "the edits come to more than 160 rows");

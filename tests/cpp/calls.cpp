@@ -78,7 +78,8 @@ static Answer load_loose(Store &store, uint64_t name, uint64_t kind, uint64_t nu
     if (kind == LINK && number >= store.entries.size())
         return answer(3, {number});
     bool fits = kind == LINK || (kind == OBJECT ? number != 0 : (kind == NONE || kind == BROKEN) && number == 0);
-    if (!fits)
+    bool apart = kind == NONE || !is_near_loose(store, store.entries[name].name);
+    if (!fits || !apart)
         return answer(21);
     store.entries[name].loose = {uint8_t(kind), number};
     return answer(0);

@@ -44,6 +44,8 @@ int main(int count, char **words)
     part("prepare_turns", test_prepare_turns);
     part("prepare_kept", test_prepare_kept);
     part("prepare_room", test_prepare_room);
+    part("beneath", test_beneath);
+    part("beneath_regions", test_beneath_regions);
     part("commit_writes", test_commit_writes);
     part("commit_lines", test_commit_lines);
     part("commit_stops", test_commit_stops);

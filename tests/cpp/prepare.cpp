@@ -72,13 +72,15 @@ static void tell_ancestors(std::vector<Row> &rows, size_t place)
     }
 }
 
-static Answer take_turn(const Store &store, std::vector<Row> &rows, size_t place, bool opened)
+static Answer take_turn(const Store &store, std::vector<Row> &rows, size_t place, bool opened, Conflicts &conflicts)
 {
     Row &row = rows[place];
     const Entry &entry = store.entries[row.name];
+    Value there = reading_of(entry, opened);
+    if (conflicts.refuse(row, there))
+        return answer(25, {row.name});
     if (entry.lock == FOREIGN)
         return answer(8, {topmost_name(rows, place)});
-    Value there = reading_of(entry, opened);
     Answer judged = judge(row, there);
     if (judged.number != 0)
         return judged;
@@ -99,8 +101,9 @@ static Answer judge_rows(Store &after)
     if (any_counts && after.packed_lock == FOREIGN)
         return answer(7);
     bool opened = opens_packed(after);
+    Conflicts conflicts(after);
     for (size_t place = 0; place < after.rows.size(); place++) {
-        Answer turn = take_turn(after, after.rows, place, opened);
+        Answer turn = take_turn(after, after.rows, place, opened, conflicts);
         if (turn.number != 0)
             return turn;
     }

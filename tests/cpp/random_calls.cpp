@@ -103,6 +103,8 @@ static Call random_naming(Dice &dice, const Store &s)
     uint64_t names = s.entries.size();
     if (names > 0 && dice.once_in(4))
         return call::add_name(s.entries[dice.below(names)].name);
+    if (dice.once_in(3))
+        return call::add_name(name_near(dice, s));
     return call::add_name(dice.once_in(2) ? good_name(dice) : some_name(dice));
 }
 
@@ -149,7 +151,7 @@ Call next_call(Dice &dice, const Store &s)
     if (s.mode != 0)
         return random_commit(dice, s);
     if (names < 3 || (names == MOST_NAMES && dice.once_in(4)))
-        return call::add_name(good_name(dice));
+        return call::add_name(dice.once_in(2) ? name_near(dice, s) : good_name(dice));
     if (dice.once_in(3)) {
         uint64_t name = dice.below(names), to = dice.below(names);
         return dice.once_in(3) ? call::load_loose(name, LINK, to) : call::load_loose(name, OBJECT, object_number(dice));

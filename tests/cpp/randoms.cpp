@@ -70,6 +70,20 @@ std::string some_name(Dice &dice)
     return name;
 }
 
+std::string name_near(Dice &dice, const Store &s)
+{
+    if (s.entries.empty())
+        return good_name(dice);
+    std::string name = s.entries[dice.below(s.entries.size())].name;
+    if (dice.once_in(6)) {
+        name.resize(std::min(name.rfind('/'), name.size()));
+    } else {
+        name += dice.one_of(std::string("/////-.")); // the last two come before a '/' in the order of bytes
+        name += std::to_string(dice.below(3));
+    }
+    return is_name(name) ? name : good_name(dice);
+}
+
 // ---- stores
 
 static Value target(Dice &dice, const Store &s)
@@ -100,7 +114,7 @@ static Row random_row(Dice &dice, const Store &s, uint16_t name)
     return row;
 }
 
-static void prepare(Dice &dice, Store &s)
+static void add_rows(Dice &dice, Store &s)
 {
     s.mode = uint8_t(1 + dice.below(3));
     std::vector<size_t> ancestors;
@@ -119,17 +133,18 @@ static void prepare(Dice &dice, Store &s)
     }
     for (size_t i = s.rows.size(); i-- > 1;) // names in any order; fields and parents stay
         std::swap(s.rows[i].name, s.rows[dice.below(i + 1)].name);
-    take_locks(s);
 }
 
-Store random_store(Dice &dice, size_t names, size_t lines, bool with_rows)
+static void add_names(Dice &dice, Store &s, size_t names, bool deep)
 {
-    Store s;
-    s.setting = uint8_t(dice.below(3));
     for (size_t tries = 0; tries < 4 * names && s.entries.size() < names; tries++)
-        answer_of(s, call::add_name(good_name(dice)));
+        answer_of(s, call::add_name(deep && dice.once_in(2) ? name_near(dice, s) : good_name(dice)));
     while (s.entries.size() < names)
         answer_of(s, call::add_name("refs/heads/more-" + std::to_string(s.entries.size())));
+}
+
+static void add_values(Dice &dice, Store &s)
+{
     bool packs = !dice.once_in(3);
     for (Entry &entry : s.entries) {
         if (dice.once_in(2))
@@ -139,8 +154,12 @@ Store random_store(Dice &dice, size_t names, size_t lines, bool with_rows)
         entry.lock = dice.once_in(4);
     }
     s.packed_lock = dice.once_in(3);
-    if (with_rows)
-        prepare(dice, s);
+}
+
+// As many lines as these, or as have room beside those that the rows are due.
+static void add_lines(Dice &dice, Store &s, size_t lines)
+{
+    uint64_t names = s.entries.size();
     for (size_t i = 0; i < lines && names > 0; i++) {
         uint64_t before = dice.once_in(3) ? 0 : object_number(dice);
         s.lines.push_back({uint16_t(dice.below(names)), before, object_number(dice), uint16_t(1 + dice.below(65535)),
@@ -148,6 +167,54 @@ Store random_store(Dice &dice, size_t names, size_t lines, bool with_rows)
     }
     while (s.lines.size() + due_lines(s) > MOST_LINES)
         s.lines.pop_back();
+}
+
+// No loose value lies beneath another any more, whichever of the two goes. None lies above the name of a row, and a row that would
+// write where 25 forbids it writes the log only.
+static void set_apart(Dice &dice, Store &s)
+{
+    size_t names = s.entries.size(), first = names > 0 ? dice.below(names) : 0;
+    for (size_t i = 0; i < names; i++) {
+        Entry &entry = s.entries[(first + i) % names];
+        if (is_near_loose(s, entry.name))
+            entry.loose = {};
+    }
+    for (const Row &row : s.rows)
+        for (Entry &entry : s.entries)
+            if (is_beneath(s.entries[row.name].name, entry.name))
+                entry.loose = {};
+    Conflicts conflicts(s);
+    for (Row &row : s.rows)
+        if (conflicts.refuse(row, existing(row)))
+            row.log_only = 1;
+}
+
+// In a deep one many names lie beneath others.
+static Store without_log(Dice &dice, size_t names, bool with_rows, bool deep)
+{
+    Store s;
+    s.setting = uint8_t(dice.below(3));
+    add_names(dice, s, names, deep);
+    add_values(dice, s);
+    if (with_rows)
+        add_rows(dice, s);
+    return s;
+}
+
+Store random_store(Dice &dice, size_t names, size_t lines, bool with_rows)
+{
+    Store s = without_log(dice, names, with_rows, dice.once_in(2));
+    set_apart(dice, s);
+    take_locks(s);
+    add_lines(dice, s, lines);
+    return s;
+}
+
+Store careless_store(Dice &dice, size_t names, size_t lines, bool with_rows)
+{
+    Store s = without_log(dice, names, with_rows, true);
+    take_locks(s);
+    add_lines(dice, s, lines);
     return s;
 }
 
@@ -170,6 +237,7 @@ Store ready_store(Dice &dice, size_t names, size_t lines)
     }
     if (!dice.once_in(5))
         s.packed_lock = FREE;
+    set_apart(dice, s);
     return s;
 }
 

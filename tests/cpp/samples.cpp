@@ -206,3 +206,48 @@ Store prepared_in(uint8_t mode)
     take_locks(s);
     return s;
 }
+
+// The bytes of '.', 'o' and '-' are one bit from that of '/', and no value is one bit from a link to name 0.
+Store nested()
+{
+    Store s;
+    s.setting = 1;
+    s.entries = {
+        {"refs/heads/a", object(7), 5, FREE},
+        {"refs/heads/a/b", {}, 9, FREE},
+        {"refs/heads/a.c", link(0), 0, FREE},
+        {"refs/heads/aod", {BROKEN, 0}, 0, FREE},
+        {"refs/heads/d", {}, 4, FREE},
+        {"refs/heads/d/e", object(3), 0, FREE},
+        {"refs/heads/a-f/g", object(2), 0, FOREIGN},
+        {"HEAD", link(1), 0, FREE},
+    };
+    s.lines = {{1, 0, 9, 1, 3}, {3, 0, 4, 2, 0}, {5, 1, 3, 65535, 0x0304}};
+    return s;
+}
+
+// In modes 1 and 2 row 0 would write a value above name 1's. Row 3 would write one beneath row 1's, if it were not of the log only;
+// and row 2, if its name's '.' were a '/'. A value of name 5 would lie above row 4's name.
+Store nested_prepared()
+{
+    Store s;
+    s.setting = 1;
+    s.mode = 3;
+    s.entries = {
+        {"refs/heads/a", {}, 5, FREE},
+        {"refs/heads/a/b", object(7), 0, FREE},
+        {"refs/heads/c", {}, 0, FREE},
+        {"refs/heads/c.d", {}, 0, FREE},
+        {"refs/heads/c/e", {}, 0, FREE},
+        {"refs/heads/f", {}, 0, FREE},
+        {"refs/heads/f/g", {}, 3, FREE},
+        {"refs/heads/h", {}, 8, FREE},
+        {"refs/heads/h/i", link(1), 0, FOREIGN},
+        {"HEAD", link(0), 0, FREE},
+    };
+    s.rows = {found(update(0, object(8)), object(5)), update(2, link(0)), update(3, link(1)), log_only(update(4, link(0))),
+              found(deletion(6), object(3)), found(deletion(7), object(8))};
+    s.lines = {{6, 0, 4, 1, 0}, {1, 0, 7, 2, 0x0102}};
+    take_locks(s);
+    return s;
+}

@@ -16,6 +16,13 @@ Store prepared();
 // log-only, and an update that is log-only. What is kept and opened depends on the mode.
 Store prepared_in(uint8_t mode);
 
+// Names above and beneath others, with packed values or none where another's loose value forbids a loose one. A bit turned over
+// makes such a value, or a '/' of another byte. Nothing is prepared.
+Store nested();
+
+// The same with rows, in mode 3: direct ones, deletes and log-only ones, and near them rows that write a link.
+Store nested_prepared();
+
 // The store of the marked examples: HEAD links to refs/heads/aisle, which has no value. Setting 1.
 Store marked();
 

@@ -95,19 +95,27 @@ static std::string_view name_of(const Store &store, const Row &row)
     return is_registered(store, row) ? std::string_view(store.entries[row.name].name) : std::string_view();
 }
 
-// What was there when the row was prepared.
-static Value existing(const Row &row) { return row.expected == MUST_EXIST_AND_MATCH ? row.expected_target : Value{}; }
+Value existing(const Row &row) { return row.expected == MUST_EXIST_AND_MATCH ? row.expected_target : Value{}; }
 
 bool is_direct(const Store &store, const Row &row)
 {
     return store.mode == 3 && row.kind == UPDATE && row.new_target.kind == OBJECT && is_packable(name_of(store, row));
 }
 
+// An update to a link changes every value, the same link too.
+static bool changes(const Row &row, const Value &there) { return row.new_target.kind == LINK || row.new_target != there; }
+
 bool keeps_lock(const Store &store, const Row &row)
 {
-    bool changes = row.new_target.kind == LINK || row.new_target != existing(row);
-    return row.kind == DELETE || is_direct(store, row) || changes;
+    return row.kind == DELETE || is_direct(store, row) || changes(row, existing(row));
 }
+
+static bool writes_loose_over(const Store &store, const Row &row, const Value &there)
+{
+    return row.kind == UPDATE && !row.log_only && !is_direct(store, row) && changes(row, there);
+}
+
+bool writes_loose(const Store &store, const Row &row) { return writes_loose_over(store, row, existing(row)); }
 
 bool counts(const Store &store, const Row &row) { return !row.log_only && is_packable(name_of(store, row)); }
 
@@ -163,7 +171,66 @@ size_t due_lines(const Store &store)
                                 [&](const Row &row) { return due_line(store, row).has_value(); }));
 }
 
-// The fields of one row, without the parent.
+// ---- names above and beneath
+
+bool is_beneath(std::string_view name, std::string_view above)
+{
+    return begins(name, above) && begins(name.substr(above.size()), "/");
+}
+
+bool is_near_loose(const Store &store, std::string_view name)
+{
+    return std::any_of(store.entries.begin(), store.entries.end(), [=](const Entry &entry) {
+        return entry.loose.kind != NONE && (is_beneath(name, entry.name) || is_beneath(entry.name, name));
+    });
+}
+
+Conflicts::Conflicts(const Store &of) : store(of)
+{
+    for (const Entry &entry : store.entries)
+        if (entry.loose.kind != NONE)
+            loose.push_back(entry.name);
+    std::sort(loose.begin(), loose.end());
+}
+
+// One of the names is what stands before a slash of this one.
+bool Conflicts::has_above(const Names &names, std::string_view name)
+{
+    for (size_t slash = name.find('/'); slash != name.npos; slash = name.find('/', slash + 1))
+        if (std::binary_search(names.begin(), names.end(), name.substr(0, slash)))
+            return true;
+    return false;
+}
+
+// The names that begin with this stand side by side, and the first of them is the first that does not come before it.
+bool Conflicts::has_beginning(const Names &names, std::string_view begin)
+{
+    const auto first = std::lower_bound(names.begin(), names.end(), begin);
+    return first != names.end() && begins(*first, begin);
+}
+
+bool Conflicts::are_among_values() const
+{
+    return std::any_of(loose.begin(), loose.end(), [this](std::string_view name) { return has_above(loose, name); });
+}
+
+bool Conflicts::refuse(const Row &row, const Value &there)
+{
+    const std::string_view name = name_of(store, row);
+    if (has_above(loose, name)) // whatever the row does
+        return true;
+    if (!writes_loose_over(store, row, there))
+        return false;
+    const std::string with_slash = std::string(name) + "/"; // what all names beneath begin with
+    if (has_beginning(loose, with_slash) || has_above(written, name) || has_beginning(written, with_slash))
+        return true;
+    written.insert(std::lower_bound(written.begin(), written.end(), name), name);
+    return false;
+}
+
+// ---- the fields of a row
+
+// Those of one row, without the parent.
 static bool is_good_row(const Store &store, const Row &row)
 {
     bool flags = (row.kind == UPDATE || row.kind == DELETE) && row.log_only <= 1 && row.force <= 1 && row.has_parent <= 1;
@@ -235,9 +302,20 @@ static bool are_good_locks(const Store &store)
     return store.packed_lock <= OURS && (store.packed_lock == OURS) == opens_packed(store);
 }
 
+// No loose value lies beneath another, and 25 would refuse no row.
+static bool are_without_conflicts(const Store &store)
+{
+    Conflicts conflicts(store);
+    return !conflicts.are_among_values() &&
+           std::none_of(store.rows.begin(), store.rows.end(),
+                        [&](const Row &row) { return conflicts.refuse(row, existing(row)); });
+}
+
 bool is_good(const Store &store)
 {
     if (store.setting > 2 || !are_good_names(store) || !are_good_rows(store) || !are_good_locks(store))
+        return false;
+    if (!are_without_conflicts(store))
         return false;
     for (const Line &line : store.lines)
         if (!is_good_line(store, line))

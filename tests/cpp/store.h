@@ -73,14 +73,46 @@ struct Store {
 bool is_name(std::string_view name);
 bool is_packable(std::string_view name);
 
+// A name lies beneath another if it begins with that one and a '/'. The other is then above it.
+bool is_beneath(std::string_view name, std::string_view above);
+
 // What a name reads.
 Value reading(const Entry &entry);
 
-// R2: the row counts; the rows open the packed table. R4: the row is direct; it keeps its lock.
+// What was there when the row was prepared.
+Value existing(const Row &row);
+
+// R2: the row counts; the rows open the packed table. R4: the row is direct; it keeps its lock. W1: it writes a loose value.
 bool counts(const Store &store, const Row &row);
 bool opens_packed(const Store &store);
 bool is_direct(const Store &store, const Row &row);
 bool keeps_lock(const Store &store, const Row &row);
+bool writes_loose(const Store &store, const Row &row);
+
+// A name above this one, or beneath it, has a loose value, a broken one too.
+bool is_near_loose(const Store &store, std::string_view name);
+
+// Names above and beneath others that have loose values, or would get them: 25, and what a good store has not.
+class Conflicts {
+public:
+    // Of the store, its names, its loose values and its mode are looked at. They stay as they are meanwhile.
+    explicit Conflicts(const Store &store);
+
+    // A loose value lies beneath another.
+    bool are_among_values() const;
+
+    // The row whose turn it is is refused, where this is what it finds. If it is not, the later rows are judged beside it.
+    bool refuse(const Row &row, const Value &there);
+
+private:
+    using Names = std::vector<std::string_view>; // in the order of their bytes
+
+    static bool has_above(const Names &names, std::string_view name);
+    static bool has_beginning(const Names &names, std::string_view begin);
+
+    const Store &store;
+    Names loose, written; // those that have a loose value, and those that earlier rows would write one of
+};
 
 // The objects of the log line that a row is due, if it is due one, and how many of the rows are due one.
 struct Move {

@@ -102,6 +102,7 @@ static void test_chains()
 static void test_samples()
 {
     stops_everywhere(prepared(), Led::by_nothing, "the sample");
+    stops_everywhere(nested_prepared(), Led::by_nothing, "the sample with names beneath others");
     for (uint8_t mode : {1, 2, 3})
         stops_everywhere(prepared_in(mode), Led::by_nothing, "the sample in mode " + std::to_string(mode));
 }

@@ -1,14 +1,15 @@
-// Each bit of a region turned over in turn, or one bit of each N. The archive and our own decoder must take the same ones for good,
-// and a call on those must do what it does on our own store. What our decoder accepts, our encoder writes as the same bytes again.
+// Each bit of a region turned over in turn, or one bit of each N; and each that is in use of regions with names beneath others. The
+// archive and our own decoder must take the same ones for good, and a call on those must do what it does on our own store. What our
+// decoder accepts, our encoder writes as the same bytes again.
 #include "entries.h"
 #include "samples.h"
 #include "share.h"
 #include "tests.h"
 #include "world.h"
 
-// Every call but start tests the region, so they take turns. 17 of them, an odd number, so that each meets every bit of a byte:
-// prepare has two lists, one for names without a packed value, and one that meets the packed table's lock; commit makes all writes,
-// and those before the third.
+// Every call but start tests the region, so they take turns. 19 of them, an odd number, so that each meets every bit of a byte:
+// prepare has three lists, one for names without a packed value, one that meets the packed table's lock, and one that meets a value
+// above a name; the second load meets one beneath; commit makes all writes, and those before the third.
 static std::vector<Call> calls()
 {
     using namespace call;
@@ -17,6 +18,7 @@ static std::vector<Call> calls()
         load_packed(1, NONE, 0), lock_name(0), unlock_name(2), lock_packed(), unlock_packed(), read_line(3, 0),
         add_name("refs/heads/new"), prepare(write_list({updating(0, object(6)), deleting(3)}), 3),
         prepare(write_list({through(updating(0, object(6)))}), 1), commit(258, ~uint64_t(0)), commit(1, 2),
+        prepare(write_list({log_only(deleting(5)), updating(1, link(0))}), 2), load_loose(4, BROKEN, 0),
     };
 }
 
@@ -105,8 +107,58 @@ static void flip_known(const Store &store, const Bytes &bytes)
               "bit " + std::to_string(bit) + ", of the version or the length, is turned over, and the region is good still");
 }
 
+// Bits that make a loose value above or beneath another, or a row that 25 would refuse, and that break no other rule. They are
+// turned over before every call, however few of the others are.
+static void flip_into_conflicts(const Store &store, const std::vector<size_t> &bits)
+{
+    Copy copy(encode(store));
+    for (size_t bit : bits)
+        for (const Call &call : calls())
+            check(!flip(copy, bit, call), "bit " + std::to_string(bit) + " is turned over, and the region is good still");
+}
+
+// The bits of the header and of the slots in use.
+static std::vector<size_t> bits_in_use(const Store &store)
+{
+    const size_t names = store.entries.size();
+    const std::pair<Table, size_t> tables[] = {
+        {{0, NAMES.at, 1}, 1}, {NAMES, names}, {LOOSE, names}, {PACKED, names}, {LOCKS, names}, {ROWS, store.rows.size()},
+        {LINES, store.lines.size()},
+    };
+    std::vector<size_t> bits;
+    for (const auto &[table, used] : tables)
+        for (size_t bit = 8 * table.slot(0); bit < 8 * table.slot(used); bit++)
+            bits.push_back(bit);
+    return bits;
+}
+
+static void flip_used(const Store &store)
+{
+    const std::vector<size_t> bits = bits_in_use(store);
+    const std::vector<Call> turns = calls();
+    share_out(bits.size(), [&](size_t first, size_t end) {
+        Copy copy(encode(store));
+        for (size_t i = first; i < end; i++)
+            flip(copy, bits[i], turns[i % turns.size()]);
+    });
+}
+
+static void flip_nested()
+{
+    for (const Store &store : {nested(), nested_prepared()})
+        flip_used(store);
+    auto bit = [](size_t byte, size_t number) { return 8 * byte + number; };
+    auto linked = [=](size_t name) { return bit(LOOSE.slot(name), 1); }; // none becomes a link to name 0
+    const size_t slash = sizeof "refs/heads/a" - 1;                      // where another byte becomes one
+    flip_into_conflicts(nested(), {linked(1), linked(4), bit(name_offset(2) + slash, 0), bit(name_offset(3) + slash, 6),
+                                   bit(name_offset(6) + slash, 1)});
+    flip_into_conflicts(nested_prepared(), {bit(AT_MODE, 0), bit(AT_MODE, 1), linked(0), linked(4), linked(5), linked(7),
+                                            bit(name_offset(3) + slash, 0), bit(ROWS.slot(3) + 3, 0)});
+}
+
 void test_flips(size_t every)
 {
+    flip_nested();
     for (const Store &store : {busy(), prepared()}) {
         const Bytes bytes = encode(store);
         flip_known(store, bytes);

@@ -17,10 +17,10 @@ extern "C" uint32_t move_from_c(uint8_t *region, size_t region_len, const uint8_
 extern "C" size_t settings_from_c(uint8_t *buffer, size_t buffer_len, uint32_t *number);
 extern "C" uint64_t site_from_c(uint8_t *region, size_t region_len, const uint8_t *record, size_t record_len, uint32_t *number);
 
-#if DEHLBAZIN_VERSION != 5000
-#error "the version is not 0.5.0, or #if cannot read it"
+#if DEHLBAZIN_VERSION != 6000
+#error "the version is not 0.6.0, or #if cannot read it"
 #endif
-static_assert(DEHLBAZIN_VERSION_MAJOR == 0 && DEHLBAZIN_VERSION_MINOR == 5 && DEHLBAZIN_VERSION_PATCH == 0);
+static_assert(DEHLBAZIN_VERSION_MAJOR == 0 && DEHLBAZIN_VERSION_MINOR == 6 && DEHLBAZIN_VERSION_PATCH == 0);
 static_assert(DEHLBAZIN_LAYOUT_VERSION == 1);
 static_assert(DEHLBAZIN_REGION_SIZE == REGION && DEHLBAZIN_ANSWER_SIZE == 16 * 8);
 
@@ -32,7 +32,7 @@ static_assert(DEHLBAZIN_REFERENCE_OUT_OF_DATE == 12 && DEHLBAZIN_DELETE_MUST_NOT
 static_assert(DEHLBAZIN_WRONG_STATE == 15 && DEHLBAZIN_NO_COMMITTER == 16 && DEHLBAZIN_USED_UP == 17);
 static_assert(DEHLBAZIN_BAD_NAME == 18 && DEHLBAZIN_NAMES_FULL == 19 && DEHLBAZIN_WRONG_LOCK == 20);
 static_assert(DEHLBAZIN_BAD_LOAD == 21 && DEHLBAZIN_NOTHING_THERE == 22 && DEHLBAZIN_MALFORMED_RECORD == 23);
-static_assert(DEHLBAZIN_UNKNOWN_VERSION == 24 && DEHLBAZIN_SHORT_BUFFER == 33);
+static_assert(DEHLBAZIN_UNKNOWN_VERSION == 24 && DEHLBAZIN_NAME_CONFLICT == 25 && DEHLBAZIN_SHORT_BUFFER == 33);
 
 static_assert(DEHLBAZIN_SETTING_NEVER == 0 && DEHLBAZIN_SETTING_NORMAL == 1 && DEHLBAZIN_SETTING_ALWAYS == 2);
 static_assert(DEHLBAZIN_KIND_NONE == NONE && DEHLBAZIN_KIND_OBJECT == OBJECT);
@@ -144,6 +144,7 @@ static Bytes prepare_record(Store store, const std::vector<Edit> &edits, uint32_
 static void test_prepare_places()
 {
     Store store = plain(8);
+    store.entries[2].name = "refs/heads/4/2";
     store.entries[4].loose = object(44);
     store.entries[5].lock = FOREIGN;
     auto places = [&](const Edit &edit, uint32_t number, const std::vector<std::pair<size_t, uint64_t>> &stated) {
@@ -174,6 +175,7 @@ static void test_prepare_places()
             {DEHLBAZIN_REFERENCE_OUT_OF_DATE_ACTUAL_NUMBER, 44}});
     places(expecting(deleting(6), MUST_NOT_EXIST), DEHLBAZIN_DELETE_MUST_NOT_EXIST, {{DEHLBAZIN_DELETE_MUST_NOT_EXIST_NAME, 6}});
     places(updating(9, object(1)), DEHLBAZIN_NOT_REGISTERED, {{DEHLBAZIN_NOT_REGISTERED_NUMBER, 9}});
+    places(deleting(2), DEHLBAZIN_NAME_CONFLICT, {{DEHLBAZIN_NAME_CONFLICT_NAME, 2}});
     const Bytes answer = prepare_record(store, {deleting(6), deleting(6)}, DEHLBAZIN_MULTIPLE_EDITS);
     check(dehlbazin_place(answer.data(), DEHLBAZIN_MULTIPLE_EDITS_NAME) == 6, "place 0 of 6");
 }

@@ -1,4 +1,4 @@
-// Long walks of random calls, random edit lists, and random stores with random bytes changed.
+// Long walks of random calls, random edit lists, and random stores: good ones, careless ones, and with random bytes changed.
 #include "preparing.h"
 #include "random_calls.h"
 #include "tally.h"
@@ -26,7 +26,7 @@ static void test_walks()
             }
     }
     calls.all_met("random calls but prepare and commit", {0, 2, 3, 15, 18, 19, 20, 21, 22});
-    preparations.all_met("prepare among random calls", {0, 2, 3, 4, 6, 7, 8, 9, 10, 11, 12, 13, 14, 15});
+    preparations.all_met("prepare among random calls", {0, 2, 3, 4, 6, 7, 8, 9, 10, 11, 12, 13, 14, 15, 25});
     commits.all_met("commit among random calls", {0, 2, 15, 16, 17});
 }
 
@@ -40,8 +40,27 @@ static void test_preparations()
         for (int list = 0; list < 20; list++)
             preparations.given[prepare_and_roll_back(world, random_prepare(dice, world.store()))]++;
     }
-    preparations.all_met("prepare on random stores", {0, 2, 3, 4, 6, 7, 8, 9, 10, 11, 12, 13, 14});
+    preparations.all_met("prepare on random stores", {0, 2, 3, 4, 6, 7, 8, 9, 10, 11, 12, 13, 14, 25});
     check(preparations.given[0] > 1500, "many random lists are prepared");
+}
+
+// Stores whose values and rows were thrown without a look at which names lie beneath others. Some are good by chance; of the others
+// the values alone are bad, or the rows beside them.
+static void test_careless()
+{
+    size_t good = 0, bad_values = 0, bad_rows = 0;
+    for (uint64_t round = 0; round < 3000; round++) {
+        Dice dice(9000 + round);
+        size_t names = 2 + dice.below(7), lines = dice.below(3);
+        const Store store = careless_store(dice, names, lines, !dice.once_in(3));
+        Store values = store;
+        forget_transaction(values);
+        (is_good(store) ? good : is_good(values) ? bad_rows : bad_values)++;
+        taken_for(is_good(store), encode(store), "a careless store, round " + std::to_string(round));
+    }
+    check(good > 300 && bad_values > 300 && bad_rows > 200, "careless stores: " + std::to_string(good) + " good, " +
+                                                                std::to_string(bad_values) + " with bad values, " +
+                                                                std::to_string(bad_rows) + " with bad rows");
 }
 
 // A byte of a slot that is in use, or of the first that is not.
@@ -88,5 +107,6 @@ void test_random()
 {
     test_walks();
     test_preparations();
+    test_careless();
     test_changed_bytes();
 }

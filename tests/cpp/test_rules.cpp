@@ -45,7 +45,7 @@ static void with_bytes(bool is_good, const char *what, const Store &store, const
 
 static void test_header_fields()
 {
-    for (const Store &s : {Store{}, busy(), prepared(), prepared_in(1), prepared_in(2), prepared_in(3)})
+    for (const Store &s : {Store{}, busy(), nested(), prepared(), prepared_in(1), prepared_in(2), prepared_in(3), nested_prepared()})
         with_bytes(true, "unchanged", s, {});
     for (uint8_t version : {0, 2, 255})
         with_bytes(false, "version", busy(), {{0, version}});

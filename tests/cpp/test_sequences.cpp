@@ -1,4 +1,5 @@
 // Many short sequences of random calls, all that take a region, each on a region of its own. After each call all is compared.
+#include "nearness.h"
 #include "random_calls.h"
 #include "random_settings.h"
 #include "share.h"
@@ -13,10 +14,12 @@ static const int STEPS = 12;
 // With fewer sequences than this, some numbers may not come at all.
 static const size_t ENOUGH = 10000;
 
-// What came in all sequences: how often each call was done, and which numbers were given, those of prepare and of commit apart.
+// What came in all sequences: how often each call was done, which numbers were given, those of prepare and of commit apart, and how
+// often names above and beneath others mattered.
 struct Met {
     std::atomic<size_t> done[OPS] = {};
     Tally calls, preparations, commits, starts;
+    Nearness near;
 
     void add(Op op, uint32_t number)
     {
@@ -29,9 +32,10 @@ struct Met {
     void all_met() const
     {
         calls.all_met("sequences, but for prepare and commit,", {0, 2, 3, 15, 18, 19, 20, 21, 22});
-        preparations.all_met("prepare in sequences", {0, 2, 3, 4, 6, 7, 8, 9, 10, 11, 12, 13, 14, 15});
+        preparations.all_met("prepare in sequences", {0, 2, 3, 4, 6, 7, 8, 9, 10, 11, 12, 13, 14, 15, 25});
         commits.all_met("commit in sequences", {0, 2, 15, 16, 17});
         starts.all_met("start with settings in sequences", {0, 23, 24});
+        near.all_met("sequences");
         for (size_t op = 0; op < OPS; op++)
             check(done[op] > 100, describe({Op(op), {}}) + " is hardly ever done");
     }
@@ -49,7 +53,13 @@ static Store beginning(Dice &dice)
 static void play(Dice &dice, Met &met)
 {
     World world(beginning(dice));
-    auto make = [&](const Call &call) { met.add(call.op, world.agrees(call).number); };
+    NearWalk near(met.near);
+    auto make = [&](const Call &call) {
+        const Store before = world.store();
+        const Answer given = world.agrees(call);
+        met.add(call.op, given.number);
+        near.add(call, given, before, world.store());
+    };
     if (dice.once_in(4))
         make(call::start(dice.below(3)));
     for (int step = 0; step < STEPS; step++) {

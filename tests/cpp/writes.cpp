@@ -37,7 +37,7 @@ static void add_updates(const Store &store, std::vector<Write> &list)
             continue;
         if (std::optional<Move> due = due_line(store, row))
             list.push_back(writes::line(row.name, due->before, due->after, row.message));
-        if (keeps_lock(store, row) && !row.log_only && !is_direct(store, row))
+        if (writes_loose(store, row))
             list.push_back(writes::loose(row.name, row.new_target));
     }
 }

@@ -61,5 +61,5 @@ pub use words::InWords;
 /// A region of the right size. Bytes whose size is not known go to [`Store::open_in`] and [`Store::start_in`].
 pub type Region = [u8; REGION_SIZE];
 
-/// The version of the interface that this crate was written for, as `DEHLBAZIN_VERSION` of include/dehlbazin.h has it: 0.5.0.
-pub const VERSION: u32 = 5000;
+/// The version of the interface that this crate was written for, as `DEHLBAZIN_VERSION` of include/dehlbazin.h has it: 0.6.0.
+pub const VERSION: u32 = 6000;

@@ -105,6 +105,12 @@ pub enum Refusal {
     MalformedRecord,
     /// 24: a settings record of a version that the reader does not know.
     UnknownVersion,
+    /// 25: a name above or beneath the row's has a loose value, or would get one. One name lies beneath another, which is above
+    /// it, if it begins with that one and a `/`.
+    NameConflict {
+        /// The name of the row, which links may have led to.
+        name: NameNumber,
+    },
     /// 33: a buffer that is shorter than the settings record to be written there.
     ShortBuffer,
     /// The archive gave what this crate does not know: it is of another version.
@@ -144,6 +150,7 @@ impl Refusal {
             22 => Refusal::NothingThere,
             23 => Refusal::MalformedRecord,
             24 => Refusal::UnknownVersion,
+            25 => Refusal::NameConflict { name: answer.name(0)? },
             33 => Refusal::ShortBuffer,
             _ => return None,
         })
@@ -174,6 +181,7 @@ impl Refusal {
             Refusal::NothingThere => 22,
             Refusal::MalformedRecord => 23,
             Refusal::UnknownVersion => 24,
+            Refusal::NameConflict { .. } => 25,
             Refusal::ShortBuffer => 33,
             Refusal::Unexpected { number } => number,
         }

@@ -196,7 +196,23 @@ impl Store<'_> {
         entries::add_name(self.region, name.as_ref()).given(|answer| answer.name(0))
     }
 
-    /// Sets the loose value of a name, whatever its lock.
+    /// Sets the loose value of a name, whatever its lock. Refused with 21 for a value where a name above or beneath has a loose
+    /// one: where one of the two begins with the other and a `/`.
+    ///
+    /// ```
+    /// use dehlbazin::{Loose, ObjectNumber, Refusal, Setting, Store, Target};
+    ///
+    /// let mut region = vec![0; dehlbazin::REGION_SIZE];
+    /// let mut store = Store::start_in(&mut region, Setting::Normal)?;
+    /// let aisle = store.add_name("refs/heads/aisle")?;
+    /// let shelf = store.add_name("refs/heads/aisle/shelf")?;
+    /// let layout = Target::Object(ObjectNumber::new(7)?);
+    /// store.load_loose(aisle, layout)?;
+    /// assert_eq!(store.load_loose(shelf, layout), Err(Refusal::BadLoad));
+    /// store.load_loose(aisle, Loose::None)?;
+    /// store.load_loose(shelf, layout)?;
+    /// # Ok::<(), Refusal>(())
+    /// ```
     pub fn load_loose(&mut self, name: NameNumber, value: impl Into<Loose>) -> Result<(), Refusal> {
         let (kind, number) = value.into().parts();
         entries::load_loose(self.region, name.get(), kind, number).done()

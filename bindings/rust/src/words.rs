@@ -90,6 +90,7 @@ impl Speaker<'_> {
             | Refusal::LockAcquire { name }
             | Refusal::DeleteReferenceMustExist { name }
             | Refusal::DeleteMustNotExist { name }
+            | Refusal::NameConflict { name }
             | Refusal::MustNotExist { name, .. }
             | Refusal::MustExist { name, .. }
             | Refusal::ReferenceOutOfDate { name, .. } => {
@@ -154,6 +155,7 @@ fn of_nothing(refusal: Refusal) -> &'static str {
         Refusal::NothingThere => "there is no such log line, row or committer",
         Refusal::MalformedRecord => "the settings record is malformed, or a setting is out of bounds",
         Refusal::UnknownVersion => "the settings record has a version that is not known",
+        Refusal::NameConflict { .. } => "a name above or beneath it has a loose value, or would get one",
         Refusal::ShortBuffer => "the buffer is shorter than the settings record",
         Refusal::NotRegistered { .. } => "no name has this number",
         Refusal::MustNotExist { .. } | Refusal::MustExist { .. } | Refusal::ReferenceOutOfDate { .. } => {

@@ -85,6 +85,15 @@ fn loads() {
     refused(store.load_loose(HEAD, link(NOBODYS)), NOT_THERE);
     refused(store.load_packed(NOBODYS, three), NOT_THERE);
     refused(store.load_packed(HEAD, three), Refusal::BadLoad);
+    let shelf = done(store.add_name("refs/heads/aisle/shelf"));
+    done(store.load_loose(AISLE, Loose::Broken));
+    for beneath in [largest.into(), link(HEAD).into(), Loose::Broken] {
+        refused(store.load_loose(shelf, beneath), Refusal::BadLoad);
+    }
+    done(store.load_loose(shelf, Loose::None));
+    done(store.load_loose(AISLE, Loose::None));
+    done(store.load_loose(shelf, largest));
+    refused(store.load_loose(AISLE, largest), Refusal::BadLoad);
     done(store.prepare(&EditList::new(), MODE)).leave_prepared();
     refused(store.load_loose(AISLE, largest), Refusal::WrongState);
     refused(store.load_packed(AISLE, three), Refusal::WrongState);
@@ -139,6 +148,29 @@ fn prepare_values() {
     refuses(&mut store, &[RefEdit::update(HEAD, ExistingMustMatch(object(9)), object(6))], other);
     let never = Refusal::DeleteMustNotExist { name: AISLE };
     refuses(&mut store, &[RefEdit::delete(AISLE, MustNotExist)], never);
+}
+
+/// The refusals that names above and beneath give, with the row's own name.
+fn prepare_beneath() {
+    let mut region = marked();
+    let mut store = done(Store::open(&mut region));
+    let shelf = done(store.add_name("refs/heads/aisle/shelf"));
+    let both = [RefEdit::update(AISLE, ANY, object(6)), RefEdit::update(shelf, ANY, object(6))];
+    refuses(&mut store, &both, Refusal::NameConflict { name: shelf });
+    refuses(&mut store, &[both[1], both[0]], Refusal::NameConflict { name: AISLE });
+    refuses(&mut store, &[both[1], both[0]].map(RefEdit::through_links), Refusal::NameConflict { name: AISLE });
+    done(store.load_loose(shelf, object(5)));
+    refuses(&mut store, &both[..1], Refusal::NameConflict { name: AISLE });
+    let through = RefEdit::update(HEAD, ANY, object(6)).through_links();
+    refuses(&mut store, &[through], Refusal::NameConflict { name: AISLE });
+    done(store.load_loose(shelf, Loose::None));
+    done(store.load_loose(AISLE, Loose::Broken));
+    refuses(&mut store, &[RefEdit::delete(shelf, PreviousValue::MustExist)], Refusal::NameConflict { name: shelf });
+    let remove = PackedRefs::DeletionsAndNonSymbolicUpdatesRemoveLooseSourceReference;
+    // Direct rows write no loose value, and packed values play no part.
+    same(done(done(store.prepare(&list(&both[..1]), remove)).commit(planner())).writes(), 3);
+    same(done(done(store.prepare(&list(&both), remove)).commit(planner())).writes(), 2);
+    same((store.read_name(AISLE), store.read_name(shelf)), (Ok(Some(object(6))), Ok(Some(object(6)))));
 }
 
 /// The refusals that locks, links and a prepared transaction give.
@@ -231,6 +263,7 @@ pub fn all() {
     loads();
     locks();
     prepare_values();
+    prepare_beneath();
     prepare_others();
     log_full();
     commit();

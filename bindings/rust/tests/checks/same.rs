@@ -8,7 +8,7 @@ use dehlbazin::*;
 use std::collections::BTreeMap;
 
 const KINDS: usize = 16;
-const NUMBERS: [u32; 20] = [0, 1, 3, 4, 6, 7, 8, 9, 10, 11, 12, 13, 15, 16, 17, 18, 20, 22, 23, 24];
+const NUMBERS: [u32; 22] = [0, 1, 3, 4, 6, 7, 8, 9, 10, 11, 12, 13, 15, 16, 17, 18, 20, 21, 22, 23, 24, 25];
 
 /// Two regions, and what was made on both.
 struct Pair {
@@ -177,7 +177,7 @@ fn some_bytes(dice: &mut Dice) -> Vec<u8> {
     if dice.once_in(8) {
         return (0..dice.below(70)).map(|_| ANY[dice.below(ANY.len() as u64) as usize]).collect();
     }
-    const GOOD: [&str; 11] = [
+    const GOOD: [&str; 14] = [
         "HEAD",
         "refs/heads/a",
         "refs/heads/b",
@@ -189,9 +189,12 @@ fn some_bytes(dice: &mut Dice) -> Vec<u8> {
         "refs/notes/n",
         "refs/x",
         "refs/remotes/o/a",
+        "refs/heads/a/e",
+        "refs/x/y",
+        "refs/x/y/z",
     ];
     const BAD: [&str; 5] = ["", "head", "refs/", "refs/a..b", "refs/a.lock"];
-    let name = if dice.once_in(12) { BAD[dice.below(5) as usize] } else { GOOD[dice.below(11) as usize] };
+    let name = if dice.once_in(12) { BAD[dice.below(5) as usize] } else { GOOD[dice.below(14) as usize] };
     name.as_bytes().to_vec()
 }
 

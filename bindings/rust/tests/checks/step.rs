@@ -233,7 +233,8 @@ fn refusal_places(refusal: Refusal) -> Vec<u64> {
         Refusal::MultipleEdits { name }
         | Refusal::LockAcquire { name }
         | Refusal::DeleteReferenceMustExist { name }
-        | Refusal::DeleteMustNotExist { name } => vec![name.get()],
+        | Refusal::DeleteMustNotExist { name }
+        | Refusal::NameConflict { name } => vec![name.get()],
         Refusal::MustNotExist { name, actual, new } => two(name, parts(Some(actual)), parts(Some(new))),
         Refusal::MustExist { name, expected: None } => vec![name.get(), 1, 0],
         Refusal::MustExist { name, expected } => two(name, parts(expected), [0, 0]),

@@ -48,6 +48,10 @@ fn refusals() {
     done(store.lock_name(tag));
     let words = tags("its lock is foreign, or that of a name that its links lead to");
     says(store, &delete(Any), &words.0, &words.1);
+    let shelf = done(store.add_name("refs/heads/aisle/shelf"));
+    let words = "a name above or beneath it has a loose value, or would get one";
+    let below = [RefEdit::delete(shelf, Any)];
+    says(store, &below, &format!("refs/heads/aisle/shelf: {words}"), &format!("name 3: {words}"));
     let words = "links are still followed in a fifth round";
     says(store, &[update(HEAD, Any)[0].through_links()], words, words);
     same(done(NameNumber::new(65536).map_err(|r| r.to_string()).err().ok_or(())), "name 65536: no name has this number".into());
@@ -125,6 +129,7 @@ fn every() -> Vec<Refusal> {
         Refusal::NothingThere,
         Refusal::MalformedRecord,
         Refusal::UnknownVersion,
+        Refusal::NameConflict { name },
         Refusal::ShortBuffer,
     ]
 }
@@ -152,7 +157,7 @@ fn header() {
         same(value(&in_capitals(&format!("{outcome:?}"))), Some(outcome.number()));
     }
     same(value("DONE"), Some(Outcome::AllWritten { writes: 0 }.number()));
-    same(every().len(), 23);
+    same(every().len(), 24);
     same(value("REGION_SIZE"), Some(REGION_SIZE as u32));
     same(value("LIST_MOST_EDITS"), Some(EditList::MOST_EDITS as u32));
     same(value("SETTINGS_MOST_COMMITTERS"), Some(Settings::MOST_COMMITTERS as u32));
