@@ -9,12 +9,19 @@ pub struct Reply {
     pub places: [u64; 5],
 }
 
-/// The Rust failed in a way that has no number: an error of the file system.
+/// The Rust failed in a way that has no number.
 pub const FAILED: u32 = 1000;
 /// The store cannot be laid out as files at all.
 pub const NO_LAYOUT: u32 = 1001;
 /// The Rust panicked, and not where the scope has a number for it.
 pub const PANICKED: u32 = 1002;
+/// The Rust's commit failed with an error of the file system. Places 0 and 1 are the writes made and the row's name. Its value could not
+/// be moved into its place.
+pub const NOT_PLACED: u32 = 1003;
+/// The same: its value could not be removed.
+pub const NOT_REMOVED: u32 = 1004;
+/// The same: its log could not get a line, or could not be removed.
+pub const NOT_LOGGED: u32 = 1005;
 
 /// A row: the thirteen places of `read_row`, in their order.
 pub type Row = [u64; 13];
@@ -43,6 +50,8 @@ pub struct Prepared {
 #[derive(Clone, PartialEq, Eq, Debug)]
 pub struct Answer {
     pub reply: Reply,
+    /// Of a refusal in a row's turn, the row's name.
+    pub turn: Option<usize>,
     pub prepared: Option<Prepared>,
 }
 
@@ -56,7 +65,7 @@ impl Reply {
 
 impl Answer {
     pub fn refused(reply: Reply) -> Self {
-        Answer { reply, prepared: None }
+        Answer { reply, turn: None, prepared: None }
     }
 }
 

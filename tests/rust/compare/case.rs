@@ -134,6 +134,35 @@ impl Store {
         let state = State::empty(names.len());
         Store { setting, names, state }
     }
+
+    /// The names that lie beneath a name.
+    pub fn beneath(&self, name: usize) -> impl Iterator<Item = usize> + '_ {
+        (0..self.names.len()).filter(move |other| beneath(&self.names[*other], &self.names[name]))
+    }
+
+    /// Whether one of two names lies beneath the other.
+    pub fn nest(&self, one: usize, other: usize) -> bool {
+        let (one, other) = (&self.names[one], &self.names[other]);
+        beneath(one, other) || beneath(other, one)
+    }
+
+    /// Whether a loose value stands beneath another. No region is good then, and no directory has room for both.
+    pub fn has_nested_values(&self) -> bool {
+        let value = |name: &usize| self.state.loose[*name].is_some();
+        (0..self.names.len()).filter(value).any(|name| self.beneath(name).any(|lower| value(&lower)))
+    }
+
+    /// The names whose foreign locks cannot be files: each lies beneath a loose value, so that there is no directory for it.
+    pub fn locks_without_files(&self) -> Vec<usize> {
+        let value = |name: &usize| self.state.loose[*name].is_some();
+        let beneath_values = (0..self.names.len()).filter(value).flat_map(|name| self.beneath(name));
+        beneath_values.filter(|name| self.state.locks[*name]).collect()
+    }
+}
+
+/// Whether a name lies beneath another: it begins with that name and a `/`.
+pub fn beneath(lower: &str, upper: &str) -> bool {
+    lower.strip_prefix(upper).is_some_and(|rest| rest.starts_with('/'))
 }
 
 /// Whether a name can be packed.

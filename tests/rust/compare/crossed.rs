@@ -15,11 +15,14 @@ const TWO: Target = Target::Object(2);
 const OTHER: Target = Target::Link(1);
 const ITSELF: Target = Target::Link(0);
 
-/// Hands out every case with these names.
+/// Hands out every case with these names, but for stores with a loose value beneath another.
 pub fn with(names: [&str; 2], hand_out: &mut dyn FnMut(&Case)) {
     for state in states(names) {
         for (&setting, &mode) in pairs(&SETTINGS, &MODES) {
             let store = Store { state: state.clone(), ..Store::new(setting, &names) };
+            if store.has_nested_values() {
+                continue;
+            }
             let end = End::Commit { committer: 1, allowance: ENOUGH };
             edits(Case { store, edits: Vec::new(), mode, end }, hand_out);
         }

@@ -1,8 +1,7 @@
-//! The known differences, as predicates written from docs/DIFFERENCES.md. Outside of them nothing may differ.
+//! The known differences, as predicates written from docs/DIFFERENCES.md; 9 and 10 are in `conflicts`. Outside of them nothing may differ.
 
-use crate::answer::{Answer, Prepared, Row};
-use crate::case::{packable, Case, Edit, End, Loose, Target};
-use std::collections::BTreeSet;
+use crate::answer::{Answer, Prepared, Row, NOT_LOGGED, NOT_PLACED, NOT_REMOVED, NO_LAYOUT};
+use crate::case::{beneath, packable, Case, Edit, End, Loose, Store, Target};
 
 /// How far a case had come when the two sides differed.
 #[derive(Clone, Copy, PartialEq, Eq, PartialOrd, Ord, Debug)]
@@ -21,20 +20,47 @@ pub fn is_stop_of_1(case: &Case, rust: &Answer, stage: Stage) -> bool {
     stage > Stage::Prepare && rust.prepared.as_ref().is_some_and(|prepared| stopped_in_mode_3(case, prepared))
 }
 
-/// The number of the difference that lies in the names of a case: 2 or 9.
-pub fn of_names(case: &Case) -> Option<usize> {
-    if case.edits.iter().any(|edit| found_by_partial_name(case, edit)) {
-        return Some(2);
-    }
-    one_beneath_another(case).then_some(9)
+/// 2: whether an edit comes to a name that is short for a link.
+pub fn meets_2(case: &Case) -> bool {
+    case.edits.iter().any(|edit| found_by_partial_name(case, edit))
 }
 
-/// The case with names that meet neither 2 nor 9: each that has another beneath it, or that another is short for, ends with `-`
-/// more. All else is told by number, and a name stays of its kind and in its order, since no byte of a name is less than `-`.
+/// 11 to 13: the number of the difference by which the Rust's commit failed, or by which the store cannot be laid out. The files are
+/// looked at as they were when it failed.
+pub fn of_files(case: &Case, rust: &Answer) -> Option<usize> {
+    let store = &case.store;
+    let Some(prepared) = &rust.prepared else {
+        return (rust.reply.number == NO_LAYOUT && has_nested_logs(store)).then_some(13);
+    };
+    let (name, state) = (prepared.end.places[1] as usize, &prepared.after);
+    let value_beneath = || store.beneath(name).any(|lower| state.loose[lower].is_some());
+    let lock_beneath = || store.beneath(name).any(|lower| state.locks[lower] || prepared.ours[lower]);
+    let log_beside = || state.lines.iter().any(|line| store.nest(line.name, name));
+    match prepared.end.number {
+        NOT_REMOVED if value_beneath() => Some(11),
+        NOT_REMOVED | NOT_PLACED if lock_beneath() && !value_beneath() => Some(12),
+        NOT_LOGGED if log_beside() => Some(13),
+        _ => None,
+    }
+}
+
+/// Whether of two names with logs one lies beneath the other, but not so with loose values.
+fn has_nested_logs(store: &Store) -> bool {
+    let lines = &store.state.lines;
+    !store.has_nested_values() && lines.iter().any(|one| lines.iter().any(|other| store.nest(one.name, other.name)))
+}
+
+/// Whether of all names one lies beneath another.
+pub fn has_nested_names(case: &Case) -> bool {
+    (0..case.store.names.len()).any(|name| case.store.beneath(name).next().is_some())
+}
+
+/// The case with names that do not nest: each that has another beneath it ends with `-` more. All else is told by number, and a name
+/// stays of its kind and in its order, since no byte of a name is less than `-`.
 pub fn renamed(case: &Case) -> Case {
     let (mut renamed, names) = (case.clone(), &case.store.names);
     for name in &mut renamed.store.names {
-        if names.iter().any(|other| beneath(other, name) || longer_names(other).contains(name)) {
+        if names.iter().any(|other| beneath(other, name)) {
             name.push('-');
             assert!(!names.contains(name), "{name} is there already");
         }
@@ -42,10 +68,18 @@ pub fn renamed(case: &Case) -> Case {
     renamed
 }
 
+/// The case as far as prepare goes, which looks at no log.
+pub fn prepare_alone(case: &Case) -> Case {
+    let mut alone = Case { end: End::Rollback, ..case.clone() };
+    alone.store.state.lines.clear();
+    alone
+}
+
 /// 1, where the commit was stopped, or would be if it wrote what it loses.
 fn stopped_in_mode_3(case: &Case, prepared: &Prepared) -> bool {
     let End::Commit { allowance, .. } = case.end else { return false };
-    let stopped = prepared.end.number != 0 || prepared.steps.len() as u64 + prepared.rows.len() as u64 > allowance;
+    let due = prepared.steps.len() as u64 + prepared.rows.len() as u64;
+    let stopped = matches!(prepared.end.number, 16 | 17) || prepared.end.number == 0 && due > allowance;
     stopped && meets_1(case, prepared)
 }
 
@@ -89,42 +123,6 @@ fn longer_names(short: &str) -> Vec<String> {
     let mut names = ["refs/", "refs/tags/", "refs/heads/", "refs/remotes/"].map(|prefix| format!("{prefix}{short}")).to_vec();
     names.push(format!("refs/remotes/{short}/HEAD"));
     names
-}
-
-/// 9: of two names one lies beneath the other, and both would have to be there as files: values, logs or locks that are there, or
-/// the locks of rows.
-fn one_beneath_another(case: &Case) -> bool {
-    nested(case, &touched(case))
-}
-
-/// Whether of all names one lies beneath another.
-pub fn has_nested_names(case: &Case) -> bool {
-    nested(case, &(0..case.store.names.len()).collect())
-}
-
-/// Whether of these names one lies beneath another.
-fn nested(case: &Case, among: &BTreeSet<usize>) -> bool {
-    let names = &case.store.names;
-    among.iter().any(|upper| among.iter().any(|lower| beneath(&names[*lower], &names[*upper])))
-}
-
-fn beneath(lower: &str, upper: &str) -> bool {
-    lower.strip_prefix(upper).is_some_and(|rest| rest.starts_with('/'))
-}
-
-/// The names that have files, or that the edits come to.
-fn touched(case: &Case) -> BTreeSet<usize> {
-    let state = &case.store.state;
-    let has_file =
-        |name: &usize| state.loose[*name].is_some() || state.locks[*name] || state.lines.iter().any(|line| line.name == *name);
-    let mut touched: BTreeSet<usize> = (0..case.store.names.len()).filter(has_file).collect();
-    for edit in &case.edits {
-        touched.insert(edit.name);
-        if edit.deref {
-            touched.extend(links_from(case, edit.name));
-        }
-    }
-    touched
 }
 
 /// The names that the links from a name lead to, as far as they are followed.

@@ -3,20 +3,32 @@
 use crate::case::{Case, Edit, End, Expected, Loose, State, Store, Target, ENOUGH};
 use crate::product::{pairs, Parts};
 
-const NAMES: [&str; 3] = ["HEAD", "refs/heads/aisle", "refs/tags/v1"];
+/// Three names, each of which may link to the next.
+pub const NAMES: [&str; 3] = ["HEAD", "refs/heads/aisle", "refs/tags/v1"];
+/// The same, where one lies beneath another. Neither of the two gets a log.
+pub const NESTED: [&str; 3] = ["HEAD", "refs/tags/a/b", "refs/tags/a"];
 const ONE: Target = Target::Object(1);
 
 /// Hands out every case.
 pub fn each(hand_out: &mut dyn FnMut(&Case)) {
+    with(NAMES, hand_out);
+    with(NESTED, hand_out);
+}
+
+/// Hands out every case with these names, but for stores with a loose value beneath another.
+pub fn with(names: [&str; 3], hand_out: &mut dyn FnMut(&Case)) {
     let expected = [Expected::Any, Expected::MustExistAndMatch(ONE)];
     let parts = Parts { news: &[ONE, Target::Link(2)], expected: &expected, forces: &[false] };
     let edits: Vec<Edit> = (0..3).flat_map(|name| parts.edits(name)).collect();
     for state in states() {
+        let store = Store { state, ..Store::new(1, &names) };
+        if store.has_nested_values() {
+            continue;
+        }
         for (first, second) in pairs(&edits, &edits) {
             for mode in [1, 2, 3] {
-                let store = Store { state: state.clone(), ..Store::new(1, &NAMES) };
                 let end = End::Commit { committer: 1, allowance: ENOUGH };
-                hand_out(&Case { store, edits: vec![*first, *second], mode, end });
+                hand_out(&Case { store: store.clone(), edits: vec![*first, *second], mode, end });
             }
         }
     }

@@ -1,8 +1,9 @@
 //! The comparison of one case: both sides answer it, and every number, extra, row, lock, value and line must be the same.
 
-use crate::answer::{Answer, Prepared, Reply};
+use crate::answer::{Answer, Prepared, Reply, NO_LAYOUT};
 use crate::archive;
 use crate::case::{Case, End, Target};
+use crate::conflicts;
 use crate::differences::{self, Stage};
 use crate::image::{self, Transaction};
 use crate::mended;
@@ -42,23 +43,46 @@ pub fn judge_stops(site: &Site, case: &Case, writes: u64) -> Vec<(Case, Verdict)
     judged.collect()
 }
 
+/// Compares the two sides on a case whose store a transaction before has left in the directory.
+pub fn judge_next(site: &Site, case: &Case) -> (Answer, Verdict) {
+    judge_oddly(site, case, Odd { laid_out: true, ..Odd::default() }, |rust| compare(case, rust, Care::Reads))
+}
+
 /// Lets others lock all that is free between prepare and the end, on both sides: that changes nothing but those locks.
 pub fn judge_locked(site: &Site, case: &Case) -> Verdict {
     judge_oddly(site, case, Odd { locked_between: true, ..Odd::default() }, |rust| compare_locked(case, rust)).1
 }
 
-/// Runs the Rust, and compares. Where the sides differ and difference 2 or 9 is met, the Rust is run once more with names that do
-/// not meet it, and with that answer nothing may differ.
+/// Runs the Rust, and compares. Where names nest, 9 and 10 say whether the archive refuses what the Rust prepares. Where the sides
+/// differ otherwise, and 2 or 11 to 13 is met, the Rust is run once more in a way that does not meet it, and with that answer nothing
+/// may differ.
 fn judge_oddly(site: &Site, case: &Case, odd: Odd, compare: impl Fn(&Answer) -> Outcome) -> (Answer, Verdict) {
     let rust = original::answer_oddly(site, case, odd);
     let found = verdict(case, &rust, &compare);
-    let (Verdict::Differs(_), Some(number)) = (&found, differences::of_names(case)) else { return (rust, found) };
-    let renamed = original::answer_oddly(site, &differences::renamed(case), odd);
-    let verdict = match verdict(case, &renamed, &compare) {
+    let nested = differences::has_nested_names(case);
+    if !nested && !matches!(found, Verdict::Differs(_)) {
+        return (rust, found);
+    }
+    let (failed, partial) = (differences::of_files(case, &rust), differences::meets_2(case));
+    let exact = Odd { exact_names: true, laid_out: false, ..odd };
+    // What prepare refuses is known already, but of a store that was not laid out, and of rows that are not the scope's.
+    let unknown = nested && (partial || rust.reply.number == NO_LAYOUT);
+    let alone = unknown.then(|| original::answer_oddly(site, &differences::prepare_alone(case), exact));
+    if let Some((refusal, number)) = conflicts::refusal(case, alone.as_ref().unwrap_or(&rust)) {
+        return (rust, known(number, verdict(case, &refusal, &compare)));
+    }
+    let (Verdict::Differs(_), Some(number)) = (&found, failed.or(partial.then_some(2))) else { return (rust, found) };
+    let refused = alone.filter(|alone| alone.prepared.is_none());
+    let other = refused.unwrap_or_else(|| original::answer_oddly(site, &differences::renamed(case), exact));
+    (rust, known(number, verdict(case, &other, &compare)))
+}
+
+/// What is as the list says is known by that number.
+fn known(number: usize, verdict: Verdict) -> Verdict {
+    match verdict {
         Verdict::Same | Verdict::Known(_) => Verdict::Known(number),
         differs => differs,
-    };
-    (rust, verdict)
+    }
 }
 
 fn compare_locked(case: &Case, rust: &Answer) -> Outcome {

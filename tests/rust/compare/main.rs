@@ -4,6 +4,7 @@ mod answer;
 mod archive;
 mod build;
 mod case;
+mod conflicts;
 mod crossed;
 mod dice;
 mod differences;
@@ -47,6 +48,7 @@ fn main() {
         ["crossed", stride] => runs::fine(&runs::crossed(&site, number(stride))),
         ["singles", stride] => runs::fine(&runs::singles(&site, number(stride))),
         ["doubles", stride] => runs::doubles(&site, number(stride)).fine(),
+        ["nested", stride] => runs::fine(&runs::nested(&site, number(stride))),
         ["speed"] => speed::print(&site),
         _ => usage(),
     };
@@ -57,7 +59,7 @@ fn main() {
 fn usage() -> ! {
     eprintln!("usage: compare all COUNT SEED | share PART | record FILE | check FILE | replay FILE");
     eprintln!("       compare git COUNT SEED | differences | named | quick | random COUNT SEED");
-    eprintln!("       compare crossed STRIDE | singles STRIDE | doubles STRIDE | speed");
+    eprintln!("       compare crossed STRIDE | singles STRIDE | doubles STRIDE | nested STRIDE | speed");
     std::process::exit(2)
 }
 

@@ -26,7 +26,7 @@ pub fn mended(case: &Case, rust: &Answer) -> Option<Answer> {
         mended.after = case.store.state.clone();
         mended.steps.iter().for_each(|step| step.apply(&mut mended.after));
     }
-    Some(Answer { reply: rust.reply, prepared: Some(mended) })
+    Some(Answer { prepared: Some(mended), ..rust.clone() })
 }
 
 /// The writes put right. Those of updates come first, by row, a line before a value.

@@ -1,25 +1,32 @@
-//! Cases by name: the situations that gix-ref's own tests for these files are about, each written down anew, and the marked
-//! examples of the scope. Each says what prepare answers and, if it is done, how many writes commit makes or how many rows are
-//! rolled back.
+//! Cases by name: the situations that gix-ref's own tests for these files are about, each written down anew, the marked examples
+//! of the scope, and names beneath names. Each says what prepare answers and, if it is done, how many writes commit makes or how many rows
+//! are rolled back; of a known difference it says what the archive answers.
 
 use crate::build::{delete, link, object, store, update};
-use crate::case::{Case, Expected, Target};
+use crate::case::{Case, Edit, Expected, Target};
 
 pub struct Named {
     pub about: String,
     pub case: Case,
     pub number: u32,
     pub count: u64,
+    /// The known difference that it meets.
+    pub known: Option<usize>,
 }
 
 /// A case that prepare passes.
 fn done(about: &str, count: u64, case: Case) -> Named {
-    Named { about: about.to_owned(), case, number: 0, count }
+    Named { about: about.to_owned(), case, number: 0, count, known: None }
 }
 
 /// A case that prepare refuses.
 fn refused(about: &str, number: u32, case: Case) -> Named {
-    Named { about: about.to_owned(), case, number, count: 0 }
+    Named { about: about.to_owned(), case, number, count: 0, known: None }
+}
+
+/// The same, where the Rust's commit does not come to its end, or does something else.
+fn apart(known: usize, named: Named) -> Named {
+    Named { known: Some(known), ..named }
 }
 
 pub fn all() -> Vec<Named> {
@@ -38,6 +45,13 @@ pub fn all() -> Vec<Named> {
         chains(),
         logs(),
         full_lists(),
+        beneath_values(),
+        turns_beneath_values(),
+        beneath_nothing(),
+        above_values(),
+        two_that_nest(),
+        directories(),
+        nested_logs(),
     ];
     parts.into_iter().flatten().collect()
 }
@@ -397,5 +411,227 @@ fn full_lists() -> Vec<Named> {
         done("32 edits", 64, edits(store(1, &names[..32]))),
         done("32 edits through four links each: 160 rows", 192, edits(linked.clone())),
         done("the same in mode 3, stopped before the packed write", 160, edits(linked).mode(3).commit(1, 160)),
+    ]
+}
+
+/// Two names of which one lies beneath the other, one that lies beneath both, one that only begins alike, and one to come from.
+const NESTED: [&str; 5] = ["refs/heads/a", "refs/heads/a/b", "refs/heads/a/b/c", "refs/heads/ab", "HEAD"];
+
+/// An update to 7.
+fn made(name: usize) -> Edit {
+    update(name, object(7))
+}
+
+/// 25, (a): whatever a row does, its name lies beneath a loose value.
+fn beneath_values() -> Vec<Named> {
+    let names = || store(1, &NESTED);
+    let under = || names().loose(0, object(5));
+    vec![
+        refused("an update beneath an object", 25, under().edit(made(1))),
+        refused("an update beneath a link", 25, names().loose(0, link(3)).edit(made(1))),
+        refused("an update beneath a broken value", 25, names().broken(0).edit(made(1))),
+        refused("an update further beneath", 25, under().edit(made(2))),
+        refused("a link beneath an object", 25, under().edit(update(1, link(3)))),
+        refused("a delete beneath an object", 25, under().edit(delete(1))),
+        refused("a delete beneath an object, of what is packed", 25, under().packed(1, 3).edit(delete(1))),
+        refused("a delete of a log beneath an object", 25, under().line(1, 0, 5).edit(delete(1).log_only())),
+        refused("an update of a log beneath an object", 25, under().edit(made(1).log_only())),
+        refused("an update beneath an object to what is packed already", 25, under().packed(1, 7).edit(made(1))),
+        refused("a direct update beneath an object", 25, under().mode(3).edit(made(1))),
+        refused("an update beneath an object, to be rolled back", 25, under().edit(made(1)).rollback()),
+        refused("the end of a link lies beneath an object", 25, under().loose(4, link(1)).edit(made(4).deref())),
+        refused("the end of a link lies beneath an object, deleted", 25, under().loose(4, link(2)).edit(delete(4).deref())),
+        done("a link that leads beneath an object, without deref", 2, under().loose(4, link(1)).edit(made(4))),
+    ]
+}
+
+/// 25, (a), and the other refusals: what comes first.
+fn turns_beneath_values() -> Vec<Named> {
+    let under = || store(1, &NESTED).loose(0, object(5));
+    vec![
+        refused("25 before what is expected of an update", 25, under().edit(made(1).expect(Expected::MustExist))),
+        refused("25 before what is expected of a delete", 25, under().edit(delete(1).expect(Expected::MustExist))),
+        refused("25 before a delete that expects nothing there", 25, under().edit(delete(1).expect(Expected::MustNotExist))),
+        refused("25 before a foreign lock of the same row", 25, under().lock(1).edit(made(1))),
+        refused("25 after a foreign lock of an earlier row", 8, under().lock(3).edit(made(3)).edit(made(1))),
+        refused("25 before a foreign lock of a later row", 25, under().lock(3).edit(made(1)).edit(made(3))),
+        refused(
+            "25 after what is expected of an earlier row",
+            11,
+            under().edit(made(3).expect(Expected::MustExist)).edit(made(1)),
+        ),
+        refused("25 after a foreign lock on the packed table", 7, under().lock_packed().edit(made(1))),
+        refused("25 after two rows of one name", 6, under().edit(made(1)).edit(delete(1))),
+        refused("25 after links without end", 4, under().loose(4, link(4)).edit(made(1)).edit(delete(4).deref())),
+        refused("the first of two rows beneath an object", 25, under().edit(made(2)).edit(made(1))),
+        refused("an object deleted, and a name beneath it made: it takes two", 25, under().edit(delete(0)).edit(made(1))),
+        refused("the same, the lower first", 25, under().edit(made(1)).edit(delete(0))),
+        done("a foreign lock beneath an object that is deleted", 1, under().lock(1).edit(delete(0))),
+    ]
+}
+
+/// Names nest, and nothing stands in the way.
+fn beneath_nothing() -> Vec<Named> {
+    let names = || store(1, &NESTED);
+    let quiet = || store(0, &NESTED);
+    let packed = || names().packed(0, 3).packed(1, 3);
+    let over_packed = || names().loose(0, object(5)).packed(1, 3);
+    vec![
+        done("an update beneath a packed value", 2, names().packed(0, 3).edit(made(1))),
+        done("an update above a packed value", 2, names().packed(1, 3).edit(made(0))),
+        done("a delete beneath a packed value", 1, packed().edit(delete(1))),
+        done("a delete above a packed value", 1, packed().edit(delete(0))),
+        done("a value above a packed one, updated", 2, over_packed().edit(made(0))),
+        done("a value above a packed one, deleted", 1, over_packed().edit(delete(0))),
+        done("a name that only begins alike", 2, names().loose(0, object(5)).edit(made(3))),
+        done("the log alone, above an object", 1, names().loose(1, object(5)).edit(made(0).log_only())),
+        done("the log alone deleted, above an object", 0, names().loose(1, object(5)).edit(delete(0).log_only())),
+        done("two deletes of packed values, the lower first", 1, packed().edit(delete(1)).edit(delete(0))),
+        done("two direct updates, the lower first", 1, quiet().mode(3).edit(made(1)).edit(made(0))),
+        done("an update above one that changes nothing", 2, names().packed(1, 7).edit(made(1)).edit(made(0))),
+        done("an update beneath a log-only delete", 1, quiet().edit(delete(0).log_only()).edit(made(1))),
+        done("a log-only update beneath, then an update above", 1, quiet().edit(made(1).log_only()).edit(made(0))),
+    ]
+}
+
+/// 25, (b): difference 9.
+fn above_values() -> Vec<Named> {
+    let names = || store(1, &NESTED);
+    let over = || names().loose(1, object(5));
+    let refused_here = |about: &str, case: Case| apart(9, refused(about, 25, case));
+    vec![
+        refused_here("an update above an object", over().edit(made(0))),
+        refused_here("an update above a link", names().loose(1, link(3)).edit(made(0))),
+        refused_here("an update above a broken value", names().broken(1).edit(made(0))),
+        refused_here("an update further above", names().loose(2, object(5)).edit(made(0))),
+        refused_here("a link above an object", over().edit(update(0, link(3)))),
+        refused_here("a link above an object, in mode 3", over().mode(3).edit(update(0, link(3)))),
+        refused_here("an update above an object, packed too", over().mode(2).edit(made(0))),
+        refused_here("an update above an object, from a packed value", over().packed(0, 3).edit(made(0))),
+        refused_here("an update above an object, to be rolled back", over().edit(made(0)).rollback()),
+        refused_here("an update above an object that is deleted", over().edit(delete(1)).edit(made(0))),
+        refused_here("the end of a link lies above an object", over().loose(4, link(0)).edit(made(4).deref())),
+        refused_here("25 before what is expected, above an object", over().edit(made(0).expect(Expected::MustExist))),
+        refused_here("25 before a foreign lock, above an object", over().lock(0).edit(made(0))),
+        refused("an object above an object, after a foreign lock", 8, over().lock(3).edit(made(3)).edit(made(0))),
+        done("an update above an object, to what is packed already", 0, over().packed(0, 7).edit(made(0))),
+    ]
+}
+
+/// 25, (c): difference 10.
+fn two_that_nest() -> Vec<Named> {
+    let names = || store(1, &NESTED);
+    let two = |first: Edit, second: Edit| names().edit(first).edit(second);
+    let linked = || names().loose(3, link(1)).loose(4, link(0));
+    let refused_here = |about: &str, case: Case| apart(10, refused(about, 25, case));
+    vec![
+        refused_here("two updates, the upper first", two(made(0), made(1))),
+        refused_here("two updates, the lower first", two(made(1), made(0))),
+        refused_here("two links, the upper first", two(update(0, link(3)), update(2, link(3)))),
+        refused_here("two links in mode 3, the lower first", two(update(2, link(3)), update(0, link(3))).mode(3)),
+        refused_here("two updates, one in between", two(made(0), made(3)).edit(made(1))),
+        refused_here("two updates, to be rolled back", two(made(0), made(1)).rollback()),
+        refused_here("the ends of two links", linked().edit(made(3).deref()).edit(made(4).deref())),
+        refused_here("the later row's lock is foreign", two(made(0), made(1)).lock(1)),
+        refused("the earlier row's lock is foreign", 8, two(made(0), made(1)).lock(0)),
+        refused("the earlier row is refused for what it expects", 11, two(made(0).expect(Expected::MustExist), made(1))),
+    ]
+}
+
+/// Differences 11 and 12: a directory stands where the Rust's commit wants to move a value, or to remove one.
+fn directories() -> Vec<Named> {
+    let names = || store(0, &NESTED);
+    let over = || names().loose(1, object(5));
+    let packed = || names().packed(0, 3).packed(1, 3);
+    let direct = |case: Case| case.mode(3);
+    let value = |about: &str, count: u64, case: Case| apart(11, done(about, count, case));
+    let lock = |about: &str, count: u64, case: Case| apart(12, done(about, count, case));
+    vec![
+        value("a delete above an object", 0, over().edit(delete(0))),
+        value("a delete of a packed value above an object", 1, over().packed(0, 3).edit(delete(0))),
+        value("a direct update above an object", 1, direct(over()).edit(made(0))),
+        value("a packed value deleted, a name beneath it made", 2, packed().edit(delete(0)).edit(made(1))),
+        value("a direct update above a link that is made", 2, direct(names()).edit(update(1, link(3))).edit(made(0))),
+        value("a direct update, then a delete beneath it", 2, direct(over()).edit(made(0)).edit(delete(1))),
+        done("a delete, then a direct update above it", 2, direct(over()).edit(delete(1)).edit(made(0))),
+        lock("an update above a delete", 1, names().edit(made(0)).edit(delete(1))),
+        lock("an update above a delete, the lower first", 1, names().edit(delete(1)).edit(made(0))),
+        lock("an update above a log-only update", 1, names().edit(made(0)).edit(made(1).log_only())),
+        lock("a link above a direct update", 2, direct(names()).edit(update(0, link(3))).edit(made(1))),
+        lock("a link above a log-only update in mode 3", 1, direct(names()).edit(made(1).log_only()).edit(update(0, link(3)))),
+        lock("a delete above a log-only delete", 1, packed().edit(delete(1).log_only()).edit(delete(0))),
+        lock("an update above a foreign lock", 1, names().lock(1).edit(made(0))),
+        lock("a delete above a foreign lock", 1, packed().lock(1).edit(delete(0))),
+        lock("two deletes, the upper first", 1, packed().edit(delete(0)).edit(delete(1))),
+        lock("two direct updates, the upper first", 1, direct(names()).edit(made(0)).edit(made(1))),
+    ]
+}
+
+/// Difference 13: logs are files too.
+fn nested_logs() -> Vec<Named> {
+    let names = || store(1, &NESTED);
+    let upper = || names().line(0, 0, 5);
+    let lower = || names().line(1, 0, 5);
+    let both = || upper().line(1, 0, 5);
+    let log = |about: &str, count: u64, case: Case| apart(13, done(about, count, case));
+    vec![
+        log("a delete above a log", 0, lower().edit(delete(0))),
+        log("a delete beneath a log", 0, upper().edit(delete(1))),
+        log("a log-only delete above a log", 0, lower().edit(delete(0).log_only())),
+        log("a line above a log", 2, lower().edit(made(0))),
+        log("a line beneath a log", 2, upper().edit(made(1))),
+        log("two lines in one list", 3, names().edit(made(1)).edit(made(0).log_only())),
+        log("a log above a log", 2, both().edit(made(3))),
+        apart(13, refused("logs above and beneath, and 25", 25, both().loose(0, object(5)).edit(made(1)))),
+        apart(9, refused("logs above and beneath, and 25 above an object", 25, both().loose(1, object(5)).edit(made(0)))),
+        log("two deletes of logs, the upper first", 1, lower().edit(delete(0)).edit(delete(1))),
+        done("two deletes of logs, the lower first", 1, lower().edit(delete(1)).edit(delete(0))),
+        done("an update above a log, with setting 0", 1, store(0, &NESTED).line(1, 0, 5).edit(made(0))),
+    ]
+}
+
+/// Two transactions in one directory: the second finds what the first left. The first makes one write.
+pub fn pairs() -> Vec<(Named, Named)> {
+    let quiet = || store(0, &NESTED);
+    let logged = || store(1, &NESTED);
+    let with = |name: usize| quiet().loose(name, object(7));
+    let pair = |about: &str, first: Case, second: Named| (done(about, 1, first), second);
+    vec![
+        pair(
+            "an object deleted",
+            with(0).edit(delete(0)),
+            done("an object deleted, then a name beneath it made", 1, quiet().edit(made(1))),
+        ),
+        pair(
+            "an object deleted beneath a name",
+            with(1).edit(delete(1)),
+            done("an object deleted, then a name above it made", 1, quiet().edit(made(0))),
+        ),
+        pair(
+            "an object deleted further beneath a name",
+            with(2).edit(delete(2)),
+            done("an object deleted, then a name further above it made", 1, quiet().edit(made(0))),
+        ),
+        pair("a name made", quiet().edit(made(0)), refused("a name made, then one beneath it", 25, with(0).edit(made(1)))),
+        pair(
+            "a direct update",
+            quiet().mode(3).edit(made(1)),
+            done("a direct update, then an update above it", 1, quiet().packed(1, 7).edit(made(0))),
+        ),
+        pair(
+            "an update above a packed value, first",
+            quiet().packed(1, 7).edit(made(0)),
+            refused("an update above a packed value, then that one deleted", 25, with(0).packed(1, 7).edit(delete(1))),
+        ),
+        pair(
+            "a log removed beneath a name",
+            logged().line(2, 0, 5).edit(delete(2)),
+            done("a log removed, then one above it made", 2, logged().edit(made(0))),
+        ),
+        pair(
+            "a log removed above a name",
+            logged().line(0, 0, 5).edit(delete(0)),
+            done("a log removed, then one beneath it made", 2, logged().edit(made(1))),
+        ),
     ]
 }

@@ -21,6 +21,10 @@ pub struct Odd {
     pub empty_packed_file: bool,
     /// Between prepare and the end, others lock all that is free.
     pub locked_between: bool,
+    /// Links are looked up by exactly a name, not by what it may be short for.
+    pub exact_names: bool,
+    /// The directory stays as the transaction before left it.
+    pub laid_out: bool,
 }
 
 /// The answer of the Rust to a case.
@@ -28,15 +32,28 @@ pub fn answer(site: &Site, case: &Case) -> Answer {
     answer_oddly(site, case, Odd::default())
 }
 
-/// The same, run in such a way.
+/// The same, run in such a way. A foreign lock beneath a loose value cannot be a file, and is left out of the directory: it can be of no
+/// account, since each row on its name is refused before its lock is looked at.
 pub fn answer_oddly(site: &Site, case: &Case, odd: Odd) -> Answer {
-    if site.lay_out(&case.store).is_err() {
+    let mut laid = case.clone();
+    let left_out = case.store.locks_without_files();
+    left_out.iter().for_each(|name| laid.store.state.locks[*name] = false);
+    let mut answer = answer_on_files(site, &laid, odd);
+    if let Some(prepared) = &mut answer.prepared {
+        left_out.iter().for_each(|name| prepared.after.locks[*name] = true);
+    }
+    answer
+}
+
+fn answer_on_files(site: &Site, case: &Case, odd: Odd) -> Answer {
+    if !odd.laid_out && site.lay_out(&case.store).is_err() {
         return Answer::refused(Reply::new(answer::NO_LAYOUT, &[]));
     }
     if odd.empty_packed_file {
         std::fs::write(site.packed_path(), "# pack-refs with: sorted\n").expect("the table can be made");
     }
     let store = file::Store::at(site.git_dir(), write_reflog(case.store.setting, odd));
+    let store = if odd.exact_names { store.with_exact_names() } else { store };
     ledger::open(match case.end {
         End::Commit { allowance, .. } => allowance,
         End::Rollback => 0,
@@ -46,11 +63,13 @@ pub fn answer_oddly(site: &Site, case: &Case, odd: Odd) -> Answer {
     let run = panic::catch_unwind(AssertUnwindSafe(|| transaction.prepare(edits, Fail::Immediately, Fail::Immediately)));
     let reply = match run {
         Ok(Ok(transaction)) => return finish(site, case, transaction, odd),
-        Ok(Err(err)) => refusal(&case.store, err),
+        Ok(Err(err)) => refusal(site, &case.store, err),
         Err(panic) => panicked(site, case, panic.as_ref()),
     };
     assert_same(site, case, &case.store.state);
-    Answer::refused(reply)
+    let in_a_turn = matches!(reply.number, 8..=13 | 25);
+    let turn = in_a_turn.then(|| site.name_of(&case.store, &ledger::last_tried()));
+    Answer { turn, ..Answer::refused(reply) }
 }
 
 /// The files hold this state. They know no order between logs: sorted by name, which keeps the order within each, the lines
@@ -76,7 +95,7 @@ fn finish(site: &Site, case: &Case, transaction: file::Transaction<'_, '_>, odd:
         after.packed_lock = !ours_packed;
     }
     let end = match case.end {
-        End::Commit { committer, .. } => end_by_commit(transaction, committer),
+        End::Commit { committer, .. } => end_by_commit(site, store, transaction, committer),
         End::Rollback => Reply::new(0, &[transaction.rollback().len() as u64]),
     };
     let steps: Vec<Step> = ledger::close().iter().map(|write| site.step(store, write)).collect();
@@ -84,11 +103,12 @@ fn finish(site: &Site, case: &Case, transaction: file::Transaction<'_, '_>, odd:
     assert_same(site, case, &after);
     Answer {
         reply: Reply::new(0, &[rows.len() as u64]),
+        turn: None,
         prepared: Some(Prepared { rows, ours, ours_packed, end, steps, after }),
     }
 }
 
-fn end_by_commit(transaction: file::Transaction<'_, '_>, committer: u16) -> Reply {
+fn end_by_commit(site: &Site, store: &Store, transaction: file::Transaction<'_, '_>, committer: u16) -> Reply {
     let prepared: Vec<RefEdit> = transaction.rows().into_iter().map(|row| row.edit).collect();
     let name = committer.to_string();
     let signature = (committer != 0).then_some(gix_actor::SignatureRef { name: &name });
@@ -101,9 +121,23 @@ fn end_by_commit(transaction: file::Transaction<'_, '_>, committer: u16) -> Repl
         }
         Err(_) if stopped => 17,
         Err(commit::Error::CreateOrUpdateRefLog(log::create_or_update::Error::MissingCommitter)) => 16,
-        Err(_) => answer::FAILED,
+        Err(err) => return failure(site, store, writes as u64, err),
     };
     Reply::new(number, &[writes as u64])
+}
+
+/// An error of the file system that ends a commit, with the writes made before it and the row's name.
+fn failure(site: &Site, store: &Store, writes: u64, err: commit::Error) -> Reply {
+    let name = |name: &str| site::number_of(store, name) as u64;
+    match err {
+        commit::Error::LockCommit { full_name, .. } => Reply::new(answer::NOT_PLACED, &[writes, name(&full_name)]),
+        commit::Error::DeleteReference { full_name, .. } => Reply::new(answer::NOT_REMOVED, &[writes, name(&full_name)]),
+        commit::Error::DeleteReflog { full_name, .. } => Reply::new(answer::NOT_LOGGED, &[writes, name(&full_name)]),
+        commit::Error::CreateOrUpdateRefLog(log::create_or_update::Error::Io(_)) => {
+            Reply::new(answer::NOT_LOGGED, &[writes, site.log_of(store, &ledger::last_tried()) as u64])
+        }
+        _ => Reply::new(answer::FAILED, &[writes]),
+    }
 }
 
 fn write_reflog(setting: u8, odd: Odd) -> log::WriteReflog {
@@ -195,8 +229,9 @@ fn row(store: &Store, row: &file::Row) -> Row {
     ]
 }
 
-/// The scope's number for an error of prepare, with its extras.
-fn refusal(store: &Store, err: prepare::Error) -> Reply {
+/// The scope's number for an error of prepare, with its extras. An I/O error is 25 if it comes from a row's lock file, which cannot be made:
+/// the file was to be locked last, and was not.
+fn refusal(site: &Site, store: &Store, err: prepare::Error) -> Reply {
     let name = |name: &str| site::number_of(store, name) as u64;
     let target = |target: &gix_ref::Target| Target::numbers(Some(from_rust(store, target)));
     match err {
@@ -221,6 +256,9 @@ fn refusal(store: &Store, err: prepare::Error) -> Reply {
         prepare::Error::ReferenceOutOfDate { full_name, expected, actual } => {
             let ([kind, number], [actual_kind, actual_number]) = (target(&expected), target(&actual));
             Reply::new(12, &[name(&full_name), kind, number, actual_kind, actual_number])
+        }
+        prepare::Error::Io(_) if ledger::last_tried() != ledger::last_lock() => {
+            Reply::new(25, &[site.name_of(store, &ledger::last_tried()) as u64])
         }
         _ => Reply::new(answer::FAILED, &[]),
     }

@@ -5,6 +5,9 @@ use crate::case::{Case, Change, Edit, Expected, Target};
 /// A family of cases: it hands out every one of them.
 pub type Family = fn(&mut dyn FnMut(&Case));
 
+/// Two names of which one lies beneath the other: the edited one, and another.
+pub const NESTED: [[&str; 2]; 2] = [["refs/heads/a/b", "refs/heads/a"], ["refs/heads/a", "refs/heads/a/b"]];
+
 /// Every edit of a name that can be made from these parts.
 pub struct Parts<'a> {
     pub news: &'a [Target],

@@ -1,10 +1,10 @@
 //! Random cases: up to 32 edits and 20 names (40 now and then, so that 32 edits can have names of their own), chains of links,
-//! every mode and setting, foreign locks, logs that are there already.
+//! every mode and setting, foreign locks, logs that are there already. In two of five cases most names lie beneath others.
 
-use crate::case::{packable, Case, Change, Edit, End, Expected, Line, Loose, Store, Target, ENOUGH};
+use crate::case::{packable, Case, Change, Edit, End, Expected, Line, Loose, State, Store, Target, ENOUGH};
 use crate::dice::Dice;
 
-/// Names of every kind that the rules tell apart. No one lies beneath another.
+/// Names of every kind that the rules tell apart. None lies beneath another.
 const NAMES: [&str; 22] = [
     "HEAD",
     "FETCH_HEAD",
@@ -30,44 +30,79 @@ const NAMES: [&str; 22] = [
     "refs/bisection",
 ];
 
-/// Some pairs of names where one lies beneath the other.
-const NESTED: [&str; 5] = ["refs/heads/n", "refs/heads/n/m", "refs/heads/n/m/k", "refs/bisect", "refs/heads/feature"];
+/// Names above and beneath each other, and two that only begin alike. Some lie above names of the other list too. The first ones are near
+/// to each other.
+const NESTED: [&str; 16] = [
+    "refs/heads/n",
+    "refs/heads/n/m",
+    "refs/heads/n/m/k",
+    "refs/heads/n/l",
+    "refs/heads/nm",
+    "refs/heads/n.m/k",
+    "refs/heads",
+    "refs/heads/feature",
+    "refs/heads/aisle/end",
+    "refs/bisect",
+    "refs/bisect/bad/x",
+    "refs/worktree/own/x",
+    "refs/tags/v1.0/x",
+    "refs/remotes/HEAD",
+    "refs/remotes/HEAD/HEAD",
+    "refs/remotes/origin",
+];
+
+const NEAR: usize = 7;
 
 const OBJECTS: [u64; 5] = [1, 2, 3, 7, u64::MAX];
 
 pub fn case(dice: &mut Dice) -> Case {
-    let names = names(dice);
+    let nested = dice.percent(40);
+    let names = names(dice, nested);
     let texts: Vec<&str> = names.iter().map(String::as_str).collect();
     let mut store = Store::new(dice.pick(&[0, 1, 1, 1, 2, 2]), &texts);
-    fill(dice, &mut store);
+    // A value stands in the way of all names beneath it, so that with many of them most rows are refused.
+    let absent = if nested { dice.pick(&[40, 70, 85, 95]) } else { 40 };
+    let logs = if nested { dice.pick(&[0, 0, 0, 10, 30]) } else { dice.pick(&[0, 0, 10, 50]) };
+    fill(dice, &mut store, absent, logs);
+    with_edits(dice, store)
+}
+
+/// A transaction on what another case left.
+pub fn next(dice: &mut Dice, first: &Case, left: State) -> Case {
+    with_edits(dice, Store { state: left, ..first.store.clone() })
+}
+
+fn with_edits(dice: &mut Dice, store: Store) -> Case {
     let edits = edits(dice, &store);
     let committer = if dice.percent(6) { 0 } else { dice.pick(&[1, 7, 65_535]) };
     let end = if dice.percent(4) { End::Rollback } else { End::Commit { committer, allowance: ENOUGH } };
     Case { store, edits, mode: dice.pick(&[1, 2, 3]), end }
 }
 
-fn names(dice: &mut Dice) -> Vec<String> {
+fn names(dice: &mut Dice, nested: bool) -> Vec<String> {
     let mut pool: Vec<String> = NAMES.iter().map(|name| name.to_string()).collect();
     let mut most = 20;
-    if dice.percent(10) {
+    if nested {
+        let near = dice.percent(50);
+        dice.shuffle(&mut pool);
+        pool.truncate(if near { 2 } else { 8 });
+        pool.extend(NESTED.iter().take(if near { NEAR } else { NESTED.len() }).map(|name| name.to_string()));
+    } else if dice.percent(16) {
         pool.extend((0..18).map(|number| format!("refs/heads/many{number}")));
         most = 40;
     }
-    if dice.percent(4) {
-        pool.extend(NESTED.iter().map(|name| name.to_string()));
-    }
     dice.shuffle(&mut pool);
-    pool.truncate(if dice.percent(50) { 1 + dice.below(5) } else { 1 + dice.below(most) });
+    let few = if nested { 2 } else { 1 };
+    pool.truncate(if dice.percent(50) { few + dice.below(5) } else { few + dice.below(most) });
     pool
 }
 
-fn fill(dice: &mut Dice, store: &mut Store) {
+fn fill(dice: &mut Dice, store: &mut Store, absent: usize, logs: usize) {
     let count = store.names.len();
     let (links, packs) = (dice.pick(&[0, 15, 40]), dice.pick(&[0, 0, 20, 60]));
     let locks = if dice.percent(12) { 10 } else { 0 };
-    let logs = dice.pick(&[0, 0, 10, 50]);
     for name in 0..count {
-        store.state.loose[name] = loose(dice, count, links);
+        store.state.loose[name] = loose(dice, count, links, absent);
         if dice.percent(packs) && packable(&store.names[name]) {
             store.state.packed[name] = Some(dice.pick(&OBJECTS));
         }
@@ -76,6 +111,7 @@ fn fill(dice: &mut Dice, store: &mut Store) {
     if dice.percent(25) {
         chain(dice, store);
     }
+    thin_out(dice, store);
     store.state.packed_lock = dice.percent(4);
     for _ in 0..count {
         if dice.percent(logs) {
@@ -85,14 +121,27 @@ fn fill(dice: &mut Dice, store: &mut Store) {
     }
 }
 
-fn loose(dice: &mut Dice, names: usize, links: usize) -> Option<Loose> {
+fn loose(dice: &mut Dice, names: usize, links: usize, absent: usize) -> Option<Loose> {
     if dice.percent(links) {
         return Some(Loose::Value(Target::Link(dice.below(names))));
     }
-    match dice.below(20) {
-        0..8 => None,
-        8 => Some(Loose::Broken),
+    if dice.percent(absent) {
+        return None;
+    }
+    match dice.below(12) {
+        0 => Some(Loose::Broken),
         _ => Some(Loose::Value(Target::Object(dice.pick(&OBJECTS)))),
+    }
+}
+
+/// Takes loose values away, until none stands beneath another.
+fn thin_out(dice: &mut Dice, store: &mut Store) {
+    let mut order: Vec<usize> = (0..store.names.len()).collect();
+    dice.shuffle(&mut order);
+    for name in order {
+        if (0..store.names.len()).any(|other| store.state.loose[other].is_some() && store.nest(name, other)) {
+            store.state.loose[name] = None;
+        }
     }
 }
 

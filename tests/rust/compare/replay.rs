@@ -26,7 +26,7 @@ pub fn replay(file: &str) -> Tally {
 }
 
 /// What the archive answers to a case whose store is made by calls.
-fn answer(case: &Case) -> Answer {
+pub fn answer(case: &Case) -> Answer {
     let mut region = archive::by_calls(&case.store).expect("calls can make the store of a recorded case");
     let reply = reply(archive::prepare(&mut region, &case.edits, case.mode));
     if reply.number != 0 {
@@ -38,7 +38,7 @@ fn answer(case: &Case) -> Answer {
     let ours_packed = image::packed_lock(&region) == 2;
     let end = self::reply(archive::end(&mut region, case));
     let after = image::decode_state(&region, names);
-    Answer { reply, prepared: Some(Prepared { rows, ours, ours_packed, end, steps: Vec::new(), after }) }
+    Answer { reply, turn: None, prepared: Some(Prepared { rows, ours, ours_packed, end, steps: Vec::new(), after }) }
 }
 
 fn reply(reported: Reported) -> Reply {

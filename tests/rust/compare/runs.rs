@@ -1,12 +1,15 @@
 //! The runs: which cases are tried, and how many.
 
+use crate::answer::Answer;
 use crate::case::Case;
 use crate::crossed;
 use crate::dice::Dice;
+use crate::differences;
 use crate::doubles;
 use crate::git::{self, Git};
 use crate::judge::Care;
-use crate::named;
+use crate::named::{self, Named};
+use crate::product::NESTED;
 use crate::random;
 use crate::record;
 use crate::replay;
@@ -36,6 +39,7 @@ fn some(site: &Site, stride: u64, count: u64, with_git: u64, seed: u64) -> bool 
     tallies.extend(crossed(site, stride));
     tallies.extend(singles(site, stride));
     tallies.push(doubles(site, stride));
+    tallies.extend(nested(site, stride));
     tallies.push(random(site, count, seed));
     tallies.extend(git(site, with_git, seed));
     tallies.push(recorded(site));
@@ -59,30 +63,46 @@ fn recorded(site: &Site) -> Tally {
 
 /// As little as shows that a change to the Rust is noticed. It ends with the first part that notices it.
 pub fn quick(site: &Site) -> bool {
-    named(site).fine() && fine(&singles(site, 211)) && doubles(site, 211).fine() && random(site, 1_000, 1).fine()
+    let flat = || fine(&singles(site, 211)) && doubles(site, 211).fine();
+    named(site).fine() && flat() && fine(&nested(site, 499)) && random(site, 1_000, 1).fine()
 }
 
 /// One of each `stride` cases with one edit, of the product of all lists: a tally for each pair of names.
 pub fn crossed(site: &Site, stride: u64) -> Vec<Tally> {
-    let of = |[edited, other]: [&str; 2]| {
-        let what = format!("one edit of {edited} beside {other}, crossed");
-        exhaustive(site, &what, stride, |hand_out| crossed::with([edited, other], hand_out))
-    };
-    crossed::NAMES.map(of).into()
+    crossed::NAMES.map(|names| crossed_with(site, stride, names)).into()
+}
+
+fn crossed_with(site: &Site, stride: u64, [edited, other]: [&str; 2]) -> Tally {
+    let what = format!("one edit of {edited} beside {other}, crossed");
+    exhaustive(site, &what, stride, |hand_out| crossed::with([edited, other], hand_out))
 }
 
 /// One of each `stride` cases with one edit, of the families with more values: a tally for each pair of names.
 pub fn singles(site: &Site, stride: u64) -> Vec<Tally> {
-    let of = |[edited, other]: [&str; 2]| {
-        let what = format!("one edit of {edited} beside {other}, in families");
-        exhaustive(site, &what, stride, |hand_out| singles::with([edited, other], hand_out))
-    };
-    singles::NAMES.map(of).into()
+    singles::NAMES.map(|names| singles_with(site, stride, names)).into()
+}
+
+fn singles_with(site: &Site, stride: u64, [edited, other]: [&str; 2]) -> Tally {
+    let what = format!("one edit of {edited} beside {other}, in families");
+    exhaustive(site, &what, stride, |hand_out| singles::with([edited, other], hand_out))
 }
 
 /// One of each `stride` cases with two edits.
 pub fn doubles(site: &Site, stride: u64) -> Tally {
-    exhaustive(site, "two edits over three names", stride, doubles::each)
+    doubles_with(site, stride, doubles::NAMES)
+}
+
+fn doubles_with(site: &Site, stride: u64, names: [&str; 3]) -> Tally {
+    let what = format!("two edits over {}", names.join(", "));
+    exhaustive(site, &what, stride, |hand_out| doubles::with(names, hand_out))
+}
+
+/// One of each `stride` cases of the same kinds, with names of which one lies beneath the other.
+pub fn nested(site: &Site, stride: u64) -> Vec<Tally> {
+    let mut tallies = vec![doubles_with(site, stride, doubles::NESTED)];
+    tallies.extend(NESTED.map(|names| crossed_with(site, stride, names)));
+    tallies.extend(NESTED.map(|names| singles_with(site, stride, names)));
+    tallies
 }
 
 fn exhaustive(site: &Site, what: &str, stride: u64, each: impl Fn(&mut dyn FnMut(&Case))) -> Tally {
@@ -97,12 +117,17 @@ fn exhaustive(site: &Site, what: &str, stride: u64, each: impl Fn(&mut dyn FnMut
     tally
 }
 
-/// Random cases, and every stop of each.
+/// Random cases, and every stop of each. Where names nest, a second transaction follows in the same directory.
 pub fn random(site: &Site, count: u64, seed: u64) -> Tally {
     let (mut tally, began) = (Tally::default(), Instant::now());
     for number in 0..count {
         let mut dice = Dice::new((seed << 32).wrapping_add(number));
-        tally.try_case_and_stops(site, &random::case(&mut dice));
+        let case = random::case(&mut dice);
+        let (rust, known) = tally.try_case_and_stops(site, &case);
+        let goes_on = known.is_none() && differences::has_nested_names(&case) && case.store.locks_without_files().is_empty();
+        if let Some(prepared) = rust.prepared.filter(|_| goes_on) {
+            tally.try_next(site, &case, &random::next(&mut dice, &case, prepared.after));
+        }
     }
     tally.report(&format!("random, seed {seed}"), began);
     tally
@@ -112,15 +137,28 @@ pub fn random(site: &Site, count: u64, seed: u64) -> Tally {
 pub fn named(site: &Site) -> Tally {
     let (mut tally, began) = (Tally::default(), Instant::now());
     for named in named::all() {
-        let rust = tally.try_case(site, &named.case, Care::Reads);
-        let count = rust.prepared.as_ref().map_or(0, |prepared| prepared.end.places[0]);
-        if (rust.reply.number, count) != (named.number, named.count) {
-            let seen = format!("prepare answers {}, the count is {count}", rust.reply.number);
-            tally.fail(&format!("{}: {seen}, not {} and {}", named.about, named.number, named.count));
-        }
+        let (rust, known) = tally.try_case(site, &named.case, Care::Reads);
+        check_named(&mut tally, &named, &rust, known);
+    }
+    for (first, second) in named::pairs() {
+        let (rust, known) = tally.try_case(site, &first.case, Care::Reads);
+        check_named(&mut tally, &first, &rust, known);
+        let (rust, known) = tally.try_next(site, &first.case, &second.case);
+        check_named(&mut tally, &second, &rust, known);
     }
     tally.report("by name", began);
     tally
+}
+
+/// Whether a case by name shows what it says. Where it is of a known difference, the archive's numbers are looked at, not the Rust's.
+fn check_named(tally: &mut Tally, named: &Named, rust: &Answer, known: Option<usize>) {
+    let here = named.known.map(|_| replay::answer(&named.case));
+    let answer = here.as_ref().unwrap_or(rust);
+    let count = answer.prepared.as_ref().map_or(0, |prepared| prepared.end.places[0]);
+    if (answer.reply.number, count, known) != (named.number, named.count, named.known) {
+        let seen = format!("prepare answers {}, the count is {count}, the difference {known:?}", answer.reply.number);
+        tally.fail(&format!("{}: {seen}, not {}, {} and {:?}", named.about, named.number, named.count, named.known));
+    }
 }
 
 /// The known differences, each by its smallest input.
@@ -143,7 +181,7 @@ pub fn git(site: &Site, count: u64, seed: u64) -> Option<Tally> {
     let (mut tally, began) = (Tally::default(), Instant::now());
     for number in 0..count {
         let case = git::case(&mut Dice::new((seed << 32).wrapping_add(number)));
-        let rust = tally.try_case(site, &case, Care::Stops);
+        let (rust, _) = tally.try_case(site, &case, Care::Stops);
         let found = git.run(site, &case).expect("git can be run");
         if let Some(difference) = git::difference(&found, &rust, &case.store.state) {
             tally.fail(&format!("{difference}\n{}", text::block(0, "", &case, &rust)));

@@ -1,6 +1,6 @@
 //! Each known difference by its smallest input, run on both sides. A difference that cannot be seen any more fails.
 
-use crate::answer::{Answer, Prepared, FAILED};
+use crate::answer::{Answer, Prepared, NOT_LOGGED, NOT_PLACED, NOT_REMOVED, NO_LAYOUT};
 use crate::archive;
 use crate::build::{delete, link, object, store, update};
 use crate::case::{Case, Expected, Line, Target, ENOUGH};
@@ -33,7 +33,8 @@ pub fn all(site: &Site) -> Vec<Seen> {
         empty_table(site),
         no_counterpart(site),
         null_id(site),
-        beneath(site),
+        refused_here(site),
+        done_here(site),
         bounds(site),
     ]
     .into_iter()
@@ -240,33 +241,94 @@ fn null_id(site: &Site) -> Vec<Seen> {
     )]
 }
 
-/// 9. A name beneath another.
-fn beneath(site: &Site) -> Vec<Seen> {
-    let names = || store(1, &["refs/heads/a", "refs/heads/a/b"]);
+/// Names where one lies beneath the other.
+fn nested(setting: u8) -> Case {
+    store(setting, &["refs/heads/a", "refs/heads/a/b"])
+}
+
+/// 9 and 10. What the Rust finds only at commit: a value above another.
+fn refused_here(site: &Site) -> Vec<Seen> {
+    let [upper, lower] = [0, 1].map(|name| update(name, object(7)));
     let inputs = [
-        ("refs/heads/a loose 5, refs/heads/a/b updated to 7", names().loose(0, object(5)).edit(update(1, object(7)))),
-        ("refs/heads/a/b loose 5, refs/heads/a updated to 7", names().loose(1, object(5)).edit(update(0, object(7)))),
-        ("refs/heads/a/b loose 5, refs/heads/a deleted", names().loose(1, object(5)).edit(delete(0))),
-        ("refs/heads/a/b has a log, refs/heads/a deleted", names().line(1, 0, 5).edit(delete(0))),
-        ("refs/heads/a has a log, refs/heads/a/b deleted", names().line(0, 0, 5).edit(delete(1))),
+        (9, "refs/heads/a/b loose 5, refs/heads/a updated to 7", nested(1).loose(1, object(5)).edit(upper)),
+        (10, "refs/heads/a and refs/heads/a/b made in one list", nested(0).edit(upper).edit(lower)),
+        (10, "refs/heads/a/b and refs/heads/a made in one list", nested(0).edit(lower).edit(upper)),
     ];
-    inputs.iter().map(|(input, case)| one_beneath(site, input, case)).collect()
-}
-
-fn one_beneath(site: &Site, input: &str, case: &Case) -> Seen {
-    let rust = original::answer(site, case);
-    let failed = |number: u32| number == FAILED;
-    let at = match &rust.prepared {
-        Some(prepared) if failed(prepared.end.number) => "commit",
-        None if failed(rust.reply.number) => "prepare",
-        _ => "nothing",
+    let one = |(number, input, case): (usize, &str, Case)| {
+        let (rust, failed) = failure(site, &case);
+        let here = prepare(&case).1;
+        let last = case.edits.len() - 1;
+        let fine =
+            explained(site, &case, number) && failed && (here.number, here.places[0]) == (25, case.edits[last].name as u64);
+        seen(
+            number,
+            input,
+            rust,
+            format!("{} from prepare with {}", here.number, case.store.names[here.places[0] as usize]),
+            fine,
+        )
     };
-    let here = run(case).1;
-    let fine = explained(site, case, 9) && at != "nothing" && here.number == 0;
-    seen(9, input, format!("gives an I/O error from {at}"), format!("{} with {} writes", here.number, here.places[0]), fine)
+    inputs.map(one).into_iter().collect()
 }
 
-/// 10. Bounds. Each input is run through the Rust too, which has none of them.
+/// 11 to 13. What the Rust's commit cannot do with files, and is done here.
+fn done_here(site: &Site) -> Vec<Seen> {
+    let [upper, lower] = [0, 1].map(|name| update(name, object(7)));
+    let loose = || nested(0).loose(1, object(5));
+    let packed = || nested(0).packed(0, 5);
+    let inputs = [
+        (11, "a/b loose 5, a deleted", loose().edit(delete(0))),
+        (11, "a/b loose 5, a packed 5 and deleted", loose().packed(0, 5).edit(delete(0))),
+        (11, "a/b loose 5, a updated to 7 in mode 3", loose().mode(3).edit(upper)),
+        (11, "a packed 5 and deleted, a/b made in one list", packed().edit(delete(0)).edit(lower)),
+        (12, "a made, a/b deleted in one list", nested(0).edit(upper).edit(delete(1))),
+        (12, "a/b deleted, a made in one list", nested(0).edit(delete(1)).edit(upper)),
+        (12, "a made, then a log-only update of a/b", nested(0).edit(upper).edit(lower.log_only())),
+        (12, "a made as a link, a/b made in mode 3", nested(0).mode(3).edit(update(0, link(1))).edit(lower)),
+        (
+            12,
+            "a/b's log updated, a made as a link in mode 3",
+            nested(0).mode(3).edit(lower.log_only()).edit(update(0, link(1))),
+        ),
+        (12, "a/b's log deleted, a deleted in one list", nested(0).edit(delete(1).log_only()).edit(delete(0))),
+        (12, "a/b locked by others, a made", nested(0).lock(1).edit(upper)),
+        (12, "a/b locked by others, a deleted", nested(0).lock(1).edit(delete(0))),
+        (12, "a deleted, a/b deleted in one list", nested(0).edit(delete(0)).edit(delete(1))),
+        (12, "a made, a/b made in mode 3", nested(0).mode(3).edit(upper).edit(lower)),
+        (13, "a/b has a log, a deleted", nested(1).line(1, 0, 5).edit(delete(0))),
+        (13, "a has a log, a/b deleted", nested(1).line(0, 0, 5).edit(delete(1))),
+        (13, "a/b has a log, a's log deleted", nested(1).line(1, 0, 5).edit(delete(0).log_only())),
+        (13, "a/b has a log, a made", nested(1).line(1, 0, 5).edit(upper)),
+        (13, "a has a log, a/b made", nested(1).line(0, 0, 5).edit(lower)),
+        (13, "a/b made, a's log updated in one list", nested(1).edit(lower).edit(upper.log_only())),
+        (13, "a and a/b have logs, no edit", nested(1).line(0, 0, 5).line(1, 0, 5)),
+    ];
+    let one = |(number, input, case): (usize, &str, Case)| {
+        let (rust, failed) = failure(site, &case);
+        let here = run(&case).1;
+        let fine = explained(site, &case, number) && failed && here.number == 0;
+        seen(number, input, rust, format!("{} with {} writes", here.number, here.places[0]), fine)
+    };
+    inputs.map(one).into_iter().collect()
+}
+
+/// What the Rust's commit fails with, in words, and whether it does.
+fn failure(site: &Site, case: &Case) -> (String, bool) {
+    let rust = original::answer(site, case);
+    let Some(prepared) = &rust.prepared else {
+        return ("has no directory for it".to_owned(), rust.reply.number == NO_LAYOUT);
+    };
+    let what = match prepared.end.number {
+        NOT_PLACED => "a value cannot be moved into its place",
+        NOT_REMOVED => "a value cannot be removed",
+        NOT_LOGGED => "a log cannot be changed",
+        _ => return (format!("answers {}", prepared.end.number), false),
+    };
+    let name = &case.store.names[prepared.end.places[1] as usize];
+    (format!("gives an I/O error from commit after {} writes, {what}: {name}", prepared.end.places[0]), true)
+}
+
+/// 14. Bounds. Each input is run through the Rust too, which has none of them.
 fn bounds(site: &Site) -> Vec<Seen> {
     let names: Vec<String> = (0..257).map(|number| format!("refs/heads/n{number}")).collect();
     let names: Vec<&str> = names.iter().map(String::as_str).collect();
@@ -283,7 +345,7 @@ fn bounds(site: &Site) -> Vec<Seen> {
     let taken = |passes: bool| if passes { "takes it" } else { "refuses it" }.to_owned();
     let one = |input: &str, case: &Case, here: u32, number: u32| {
         let passes = passes(case);
-        seen(10, input, taken(passes), here.to_string(), passes && here == number)
+        seen(14, input, taken(passes), here.to_string(), passes && here == number)
     };
     vec![
         one("a 257th name", &many, here_many, 19),

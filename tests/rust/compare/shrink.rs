@@ -12,7 +12,11 @@ pub fn smallest(site: &Site, case: &Case) -> (Case, Answer, String) {
         (best, difference) = (smaller, Some(found));
     }
     let (rust, _) = judge::judge(site, &best, Care::Stops);
-    (best, rust, difference.unwrap_or_else(|| "it differs only in a stop that was run".to_owned()))
+    (
+        best,
+        rust,
+        difference.unwrap_or_else(|| "it differs only in a stop that was run, or after another transaction".to_owned()),
+    )
 }
 
 fn differs(site: &Site, case: &Case) -> Option<String> {

@@ -2,7 +2,7 @@
 //! values of its own than the product of all (`crossed`).
 
 use crate::case::{packable, Case, Edit, End, Expected, Line, Loose, State, Store, Target, ENOUGH};
-use crate::product::{expectations, pairs, Parts};
+use crate::product::{expectations, pairs, Parts, NESTED};
 
 /// The edited name and another one, which it may link to.
 pub const NAMES: [[&str; 2]; 4] = [
@@ -19,12 +19,12 @@ const ITSELF: Target = Target::Link(0);
 
 /// Hands out every case.
 pub fn each(hand_out: &mut dyn FnMut(&Case)) {
-    for names in NAMES {
+    for names in NAMES.into_iter().chain(NESTED) {
         with(names, hand_out);
     }
 }
 
-/// Hands out every case with these names.
+/// Hands out every case with these names, but for stores with a loose value beneath another.
 pub fn with(names: [&str; 2], hand_out: &mut dyn FnMut(&Case)) {
     values(names, hand_out);
     locks(names, hand_out);
@@ -54,6 +54,9 @@ fn states(names: [&str; 2], packed: &[[Option<u64>; 2]]) -> Vec<State> {
 fn hand(names: [&str; 2], setting: u8, state: &State, edit: &Edit, committer: u16, hand_out: &mut dyn FnMut(&Case)) {
     for mode in [1, 2, 3] {
         let store = Store { state: state.clone(), ..Store::new(setting, &names) };
+        if store.has_nested_values() {
+            return;
+        }
         hand_out(&Case { store, edits: vec![*edit], mode, end: End::Commit { committer, allowance: ENOUGH } });
     }
 }

@@ -29,7 +29,7 @@ impl Site {
         self.root.join("git")
     }
 
-    /// Empties the directory and lays out a store. It fails if a name would have to be a file and a directory.
+    /// Empties the directory and lays out a store. It fails if a path would have to be a file and a directory.
     pub fn lay_out(&self, store: &Store) -> io::Result<()> {
         let dir = self.git_dir();
         if dir.exists() {
@@ -56,6 +56,13 @@ impl Site {
             write(&gix_lock::lock_path(&self.packed_path()), "")?;
         }
         Ok(())
+    }
+
+    /// Removes the packed table's file, if the store has no packed value.
+    pub fn drop_empty_table(&self, store: &Store) {
+        if store.state.packed.iter().all(Option::is_none) {
+            fs::remove_file(self.packed_path()).ok();
+        }
     }
 
     pub fn packed_path(&self) -> PathBuf {
@@ -103,14 +110,17 @@ impl Site {
         number_of(store, &name.to_string_lossy())
     }
 
+    /// The name whose log this is.
+    pub fn log_of(&self, store: &Store, path: &Path) -> usize {
+        let name = path.strip_prefix(self.git_dir().join("logs")).expect("a log");
+        number_of(store, &name.to_string_lossy())
+    }
+
     /// What a write of the ledger does to the state.
     pub fn step(&self, store: &Store, write: &Write) -> Step {
         let logs = self.git_dir().join("logs");
         match write {
-            Write::Append(path, text) => {
-                let name = path.strip_prefix(&logs).expect("a log");
-                Step::Line(line_from(number_of(store, &name.to_string_lossy()), text.trim_end()))
-            }
+            Write::Append(path, text) => Step::Line(line_from(self.log_of(store, path), text.trim_end())),
             Write::Replace(path, text) if *path == self.packed_path() => {
                 let table = packed::parse(text);
                 Step::Packed(store.names.iter().map(|name| table.get(name).map(ObjectId::number)).collect())

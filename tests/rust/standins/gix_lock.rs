@@ -116,6 +116,7 @@ pub fn lock_path(resource: &Path) -> PathBuf {
 
 fn acquire(resource: &Path, boundary: Option<PathBuf>) -> Result<File, acquire::Error> {
     let lock = lock_path(resource);
+    ledger::note_try(resource);
     if let (Some(_), Some(dir)) = (&boundary, lock.parent()) {
         fs::create_dir_all(dir).map_err(acquire::Error::Io)?;
     }

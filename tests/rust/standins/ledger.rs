@@ -21,6 +21,7 @@ struct Ledger {
     allowance: u64,
     made: Vec<Write>,
     stopped: bool,
+    last_tried: PathBuf,
     last_lock: PathBuf,
 }
 
@@ -47,6 +48,16 @@ pub fn ask() -> io::Result<()> {
 /// Notes a write that was asked for and made.
 pub fn note(write: Write) {
     LEDGER.with_borrow_mut(|ledger| ledger.made.push(write));
+}
+
+/// Notes which file is to be locked, or which log is to get a line: an error that follows is about that one.
+pub fn note_try(path: &Path) {
+    LEDGER.with_borrow_mut(|ledger| ledger.last_tried = path.to_owned());
+}
+
+/// The file that was to be locked last, or the log that was to get a line.
+pub fn last_tried() -> PathBuf {
+    LEDGER.with_borrow(|ledger| ledger.last_tried.clone())
 }
 
 /// Notes which file was locked last: a panic that follows is about that file.

@@ -22,6 +22,7 @@ pub struct Store {
     object_hash: gix_hash::Kind,
     precompose_unicode: bool,
     namespace: Option<()>,
+    exact_names: bool,
 }
 
 pub struct Transaction<'s, 'p> {
@@ -33,7 +34,13 @@ pub struct Transaction<'s, 'p> {
 
 impl Store {
     pub fn at(git_dir: PathBuf, write_reflog: log::WriteReflog) -> Self {
-        Store { git_dir, write_reflog, object_hash: gix_hash::Kind::Sha1, precompose_unicode: false, namespace: None }
+        let object_hash = gix_hash::Kind::Sha1;
+        Store { git_dir, write_reflog, object_hash, precompose_unicode: false, namespace: None, exact_names: false }
+    }
+
+    /// The same store, whose finder takes a name as it stands, and for none that it may be short for.
+    pub fn with_exact_names(self) -> Self {
+        Store { exact_names: true, ..self }
     }
 
     /// Windows device names are not in the scope, and allowed.

@@ -67,6 +67,7 @@ impl Store {
         let committer = committer.ok_or(create_or_update::Error::MissingCommitter)?;
         let previous = previous.unwrap_or_else(|| new.kind().null());
         let line = line(&previous, new, committer.name, message);
+        ledger::note_try(&path);
         append(&path, &line)?;
         ledger::note(Made::Append(path, line));
         Ok(())

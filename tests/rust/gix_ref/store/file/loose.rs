@@ -53,7 +53,8 @@ impl Store {
         name: &PartialNameRef,
         _packed: Option<&crate::packed::Buffer>,
     ) -> Result<Reference, FindError> {
-        for full in places(name.as_bstr()) {
+        let places = if self.exact_names { vec![name.as_bstr().clone()] } else { places(name.as_bstr()) };
+        for full in places {
             let full = FullName::new(&full);
             if let Some(text) = self.ref_contents(full.as_ref()).map_err(FindError::Io)? {
                 return Reference::try_from_path(full, &text, self.object_hash).map_err(FindError::Decode);
