@@ -8,7 +8,7 @@ abbrev Inv-loop : tie.InvT-loop
 Inv-loop line₀ region₀ notes₀ stage₀ line region notes stage = Unit {0}
 
 abbrev μ-loop : tie.MeasureT-loop
-μ-loop line₀ region₀ notes₀ stage₀ line region notes stage = 1308 - stage
+μ-loop line₀ region₀ notes₀ stage₀ line region notes stage = 1310 - stage
 
 loop-holds : tie.Need-loop-holds Inv-loop μ-loop
 loop-holds c = search needs
