@@ -125,7 +125,30 @@ static void test_locks()
     done(site.store.unlock_packed());
 }
 
-// Each refusal of prepare, with all that comes with it.
+// Prepare refuses these edits, and changes no byte.
+static void prepare_refuses(Marked &site, std::initializer_list<Edit> edits, Reason reason, const std::vector<uint64_t> &places,
+                            AT_CALLER)
+{
+    const Region before = site.region;
+    refused(site.store.prepare(list_of(edits)), reason, places, at);
+    check(site.region == before, "a refusal changes no byte", at);
+}
+
+// 25 has the row's own name, of a shelf that lies beneath the aisle or of the aisle above it.
+static void test_prepare_beneath()
+{
+    Marked site;
+    Store &store = site.store;
+    const NameNumber shelf = store.add_name("refs/heads/aisle/shelf").value();
+    done(store.load_loose(aisle, object(5)));
+    prepare_refuses(site, {Delete(shelf)}, Reason::name_conflict, {2});
+    prepare_refuses(site, {Update(shelf, object(6)).log_only()}, Reason::name_conflict, {2});
+    done(store.load_loose(aisle, Loose::none()));
+    done(store.load_loose(shelf, object(5)));
+    prepare_refuses(site, {Update(head, object(6)).deref()}, Reason::name_conflict, {1}); // which HEAD led to
+}
+
+// Each other refusal of prepare, with all that comes with it.
 static void test_prepare()
 {
     Marked site;
@@ -133,14 +156,12 @@ static void test_prepare()
     const NameNumber tag = store.add_name("refs/tags/spring").value();
     done(store.load_loose(aisle, object(5)));
     auto refuses = [&](std::initializer_list<Edit> edits, Reason reason, const std::vector<uint64_t> &places = {}, AT_CALLER) {
-        const Region before = site.region;
-        refused(store.prepare(list_of(edits)), reason, places, at);
-        check(site.region == before, "a refusal changes no byte", at);
+        prepare_refuses(site, edits, reason, places, at);
     };
     refused(store.prepare(EditList(), Mode(0)), Reason::malformed);
     refused(store.prepare(EditList(), Mode(uint64_t(1) << 32 | 1)), Reason::malformed); // not cut down to 1
     refuses({Update(aisle, object(0))}, Reason::malformed);
-    refuses({Update(NameNumber(3), object(1))}, Reason::not_registered, {3}); // which is added below
+    refuses({Update(NameNumber(3), object(1))}, Reason::not_registered, {3});
     refuses({Update(aisle, link(NameNumber(70000)))}, Reason::not_registered, {70000});
     refuses({Update(aisle, object(6)), Delete(aisle)}, Reason::multiple_edits, {1});
     refuses({Delete(tag).expecting(Expected::must_exist())}, Reason::delete_reference_must_exist, {2});
@@ -150,13 +171,7 @@ static void test_prepare()
     refuses({Update(head, object(6)).expecting(Expected::existing_must_match(object(9)))}, Reason::reference_out_of_date,
             {0, 1, 9, 2, 1});
     refuses({Delete(aisle).expecting(Expected::must_not_exist())}, Reason::delete_must_not_exist, {1});
-    const NameNumber shelf = store.add_name("refs/heads/aisle/shelf").value(); // beneath the aisle, which has a value
-    refuses({Delete(shelf)}, Reason::name_conflict, {3});
-    refuses({Update(shelf, object(6)).log_only()}, Reason::name_conflict, {3});
     done(store.load_loose(aisle, Loose::none()));
-    done(store.load_loose(shelf, object(5)));
-    refuses({Update(head, object(6)).deref()}, Reason::name_conflict, {1}); // the row's own name, which HEAD led to
-    done(store.load_loose(shelf, Loose::none()));
     done(store.lock_name(aisle));
     refuses({Update(head, object(6)).deref()}, Reason::lock_acquire, {0});
     done(store.unlock_name(aisle));
@@ -247,6 +262,7 @@ void test_calls()
     test_loads();
     test_locks();
     test_prepare();
+    test_prepare_beneath();
     test_log_full();
     test_commit();
     test_rows();

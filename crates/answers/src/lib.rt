@@ -140,27 +140,24 @@ impl Verdict {
             Refusal::NotRegistered(number) => Verdict::one(Answer::NOT_REGISTERED, number),
             Refusal::ReferenceCycle => Verdict::bare(Answer::REFERENCE_CYCLE),
             Refusal::TooManyRows => Verdict::bare(Answer::TOO_MANY_ROWS),
-            Refusal::MultipleEdits(name) => named(Answer::MULTIPLE_EDITS, name),
+            Refusal::MultipleEdits(n) => named(Answer::MULTIPLE_EDITS, n),
             Refusal::PackedTransactionAcquire => Verdict::bare(Answer::PACKED_TRANSACTION_ACQUIRE),
-            Refusal::LockAcquire(name) => named(Answer::LOCK_ACQUIRE, name),
-            Refusal::DeleteReferenceMustExist(name) => named(
-                Answer::DELETE_REFERENCE_MUST_EXIST,
-                name,
-            ),
-            Refusal::MustNotExist(name, actual, new) => named_two(
+            Refusal::LockAcquire(n) => named(Answer::LOCK_ACQUIRE, n),
+            Refusal::DeleteReferenceMustExist(n) => named(Answer::DELETE_REFERENCE_MUST_EXIST, n),
+            Refusal::MustNotExist(n, actual, new) => named_two(
                 Answer::MUST_NOT_EXIST,
-                name,
+                n,
                 actual,
                 new,
             ),
-            Refusal::MustExist(name, expected) => named_one(Answer::MUST_EXIST, name, expected),
-            Refusal::ReferenceOutOfDate(name, expected, actual) => named_two(
+            Refusal::MustExist(n, expected) => named_one(Answer::MUST_EXIST, n, expected),
+            Refusal::ReferenceOutOfDate(n, expected, actual) => named_two(
                 Answer::REFERENCE_OUT_OF_DATE,
-                name,
+                n,
                 expected,
                 actual,
             ),
-            Refusal::DeleteMustNotExist(name) => named(Answer::DELETE_MUST_NOT_EXIST, name),
+            Refusal::DeleteMustNotExist(n) => named(Answer::DELETE_MUST_NOT_EXIST, n),
             Refusal::LogFull => Verdict::bare(Answer::LOG_FULL),
             Refusal::WrongState => Verdict::bare(Answer::WRONG_STATE),
             Refusal::BadName => Verdict::bare(Answer::BAD_NAME),
@@ -170,7 +167,7 @@ impl Verdict {
             Refusal::NothingThere => Verdict::bare(Answer::NOTHING_THERE),
             Refusal::MalformedRecord => Verdict::bare(Answer::MALFORMED_RECORD),
             Refusal::UnknownVersion => Verdict::bare(Answer::UNKNOWN_VERSION),
-            Refusal::NameConflict(name) => named(Answer::NAME_CONFLICT, name),
+            Refusal::NameConflict(n) => named(Answer::NAME_CONFLICT, n),
             Refusal::ShortBuffer => Verdict::bare(Answer::SHORT_BUFFER),
         }
     }

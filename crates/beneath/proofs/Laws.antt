@@ -8,6 +8,7 @@ use lib.ListN.{length, List·getD-eq-default}
 use borrow.Author.Tests.{not-true, not-false}
 use Rattle.word.proofs.Tests.{some-true, Unmet, unmet-start, unmet-more, unmet-end}
 use Rattle.target.specs.declared.NameNumber.{NameNumber}
+use Rattle.target.proofs.Places.{at-place}
 use Rattle.target.specs.declared.OptionTarget.{OptionTarget}
 use Rattle.target.specs.Target.{sameOption, isSymbolic}
 use Rattle.transaction.specs.declared.Change.{Change}
@@ -56,9 +57,6 @@ module _ (up : Bool) (s : Store) (n m : ℕ) (a : Bool) (ea : a ≡ isLoose s m)
     pub facing-down : up ≡ false → r ≡ lies s m n → r ≡ facing up s n m
     unfolding facing
     facing-down u er = rw (sym ea ∙ not-false a t, u) er
-
-at-place : (k : NameNumber) (i : ℕ) → k ≡ record { 0 = i } → k .0 ≡ i
-at-place k i e = ap (λ (n : NameNumber). n .0) e
 
 module _ (up : Bool) (s : Store) (n : ℕ) (c : ℕ) (ec : c ≡ count s) where
   pub facing-start : Unmet (facing up s n) c 0

@@ -12,6 +12,7 @@ use borrow.Author.Tests.{not-true, not-false}
 use Rattle.word.specs.Flags.{Flags, nowhere}
 use Rattle.word.proofs.Tests.{below-more, below-false}
 use Rattle.target.specs.declared.NameNumber.{NameNumber}
+use Rattle.target.proofs.Places.{at-place}
 use Rattle.transaction.specs.declared.PackedRefs.{PackedRefs}
 use Rattle.transaction.specs.declared.Edit.{Edit}
 use Rattle.model.specs.declared.Packed.{Packed}
@@ -20,7 +21,7 @@ use Rattle.model.specs.Store.{Store, Entry, noEntry, noRow, rowsIn, modeIn, isP
 use Rattle.model.specs.Rows.{nameIn, rowAt, counts, countsAsUpdate, keepsLock}
 use Rattle.model.specs.Fine.{keptFor}
 use Rattle.rows.proofs.Laws.{any-here, any-more}
-use Rattle.rows.proofs.Gather.{Gathering, gather-start, gather-to, gather-end}
+use Rattle.rows.proofs.Gather.{Gathering, gather-start, gather-to, gather-end, flag-passed, flag-up}
 use Rattle.kept.specs.Counting.{counting}
 
 module _ (update : Bool) (s : Store) (row : Edit) (z : Bool) where
@@ -50,21 +51,15 @@ pub rows-start : (s : Store) (mode : PackedRefs) (flags : List Bool) → Flags n
 rows-start s mode flags f = gather-start ofRow (keepsLock s mode) (rowsIn (s .prepared)) flags f
 
 module _ (s : Store) (mode : PackedRefs) (row : Edit) (i : ℕ) (b : Bool) (er : row ≡ rowAt (rowsIn (s .prepared)) i) (eb : b ≡ keepsLock s mode row) where
-  kept-is : keepsLock s mode (rowAt (rowsIn (s .prepared)) i) ≡ b
-  kept-is = ap (keepsLock s mode) (sym er) ∙ sym eb
-
   pub row-passed : (flags : List Bool) → not b ≡ true
       → flags ≡ cond (keepsLock s mode (rowAt (rowsIn (s .prepared)) i)) (set flags (nameIn (rowAt (rowsIn (s .prepared)) i) .0) true) flags
-  row-passed flags t = rw (kept-is ∙ not-true b t) refl
+  row-passed flags t = flag-passed (keepsLock s mode) (rowsIn (s .prepared)) row i b er eb flags t
 
   pub row-raised : (flags flags′ : List Bool) (k : ℕ) → not b ≡ false → k ≡ row .update .name .0 → flags′ ≡ set flags k true
       → flags′ ≡ cond (keepsLock s mode (rowAt (rowsIn (s .prepared)) i)) (set flags (nameIn (rowAt (rowsIn (s .prepared)) i) .0) true) flags
-  row-raised flags flags′ k t ek h = rw (kept-is ∙ not-false b t) (h ∙ ap (λ (k : ℕ). set flags k true) (ek ∙ ap (λ (r : Edit). nameIn r .0) er))
+  row-raised flags flags′ k t ek h = flag-up (keepsLock s mode) (rowsIn (s .prepared)) row i b er eb flags flags′ k t ek h
 
 -- ---- loops over places, whose turns ask of the name at the place
-
-at-place : (k : NameNumber) (i : ℕ) → k ≡ record { 0 = i } → k .0 ≡ i
-at-place k i e = ap (λ (n : NameNumber). n .0) e
 
 pub placed : (k : NameNumber) (i n m : ℕ) → k ≡ record { 0 = i } → i < n → n ≡ m → k .0 < m
 placed k i n m ek l e = let p : k .0 ≡ i = at-place k i ek in omega arith

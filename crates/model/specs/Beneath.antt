@@ -19,15 +19,16 @@ isLoose s n = not (isNone (entryAt s n .loose))
 abbrev pub lies : Store → ℕ → ℕ → Bool
 lies s n m = beneath (entryAt s n .name) (entryAt s m .name)
 
--- a name above this one has a loose value
+-- 25 (a): a name above this one has a loose value
 unfoldable pub looseAbove : Store → ℕ → Bool
 looseAbove s n = someBelow (count s) (λ m. isLoose s m && lies s n m)
 
--- a name beneath this one has a loose value
+-- 25 (b): a name beneath this one has a loose value
 unfoldable pub looseBeneath : Store → ℕ → Bool
 looseBeneath s n = someBelow (count s) (λ m. isLoose s m && lies s m n)
 
--- the row would write a loose value in W1: an update, not log-only, not direct, that keeps its lock by R4
+-- 25 (b), (c): the row would write a loose value in W1: an update, not log-only, not direct, that keeps its lock by R4 with the
+-- existing value, whatever it expects
 unfoldable pub wouldWrite : Store → PackedRefs → Edit → OptionTarget → Bool
 wouldWrite s mode r existing =
     not (isDelete (changeIn r))
@@ -39,14 +40,13 @@ wouldWrite s mode r existing =
 abbrev pub willWrite : Store → PackedRefs → Edit → Bool
 willWrite s mode r = wouldWrite s mode r (existingIn (changeIn r))
 
--- an earlier row that would write a loose value stands above or beneath
+-- 25 (c): an earlier row that would write a loose value stands above or beneath
 unfoldable pub meetsEarlier : Store → PackedRefs → List Edit → ℕ → Bool
 meetsEarlier s mode rows i =
     let n : ℕ = nameIn (rowAt rows i) .0 in
     someBelow i (λ j. willWrite s mode (rowAt rows j) && (lies s n (nameIn (rowAt rows j) .0) || lies s (nameIn (rowAt rows j) .0) n))
 
--- 25, of the row at place i with this existing value. (a): a name above its own has a loose value. It would write a loose value
--- and (b): a name beneath its own has one; or (c): an earlier row, above or beneath, would write one too
+-- 25, of the row at place i with this existing value: (a), whatever the row does; or it would write a loose value, and (b) or (c)
 unfoldable pub conflicts : Store → PackedRefs → List Edit → ℕ → OptionTarget → Bool
 conflicts s mode rows i existing =
     let n : ℕ = nameIn (rowAt rows i) .0 in

@@ -60,7 +60,7 @@ lockTest s rows i = cond (isLock Foreign (entryOf s (nameIn (rowAt rows i)) .loc
 abbrev pub existing : Store → Bool → Edit → OptionTarget
 existing s opened r = valueOf opened (entryOf s (nameIn r))
 
--- 25: a name beneath another
+-- 25: a name above or beneath is in the way; the name is the row's own
 abbrev pub conflictTest : Store → PackedRefs → Bool → List Edit → ℕ → Option Refusal
 conflictTest s mode opened rows i =
     cond (conflicts s mode rows i (existing s opened (rowAt rows i))) (some (NameConflict (nameIn (rowAt rows i)))) none

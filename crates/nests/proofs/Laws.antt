@@ -1,16 +1,17 @@
 -- What each test of the code says of the definitions, and the starts, turns and ends of its loops. Assumes nothing.
-use mathlib.Core.Path.{_≡_, refl, sym, ap, _∙_, subst}
-use mathlib.Core.Bool.{Bool, true, false, _&&_, not, cond, false≢true, and-true}
+use mathlib.Core.Path.{_≡_, refl, sym, ap, _∙_}
+use mathlib.Core.Bool.{Bool, true, false, _&&_, not, cond, and-true}
 use mathlib.Core.List.{List}
 use Prim.Native.Nat.{ℕ, _+_, _<_, _≤_}
 use native.Mathlib.Omega.{arith}
-use native.Mathlib.Decide.{decLt}
 use lib.ListN.{length, getD, set}
 use lib.Dec.{eqb}
 use borrow.Author.Tests.{not-true, not-false, eqb-true, eq-eqb, ne-eqb}
 use Rattle.word.specs.Flags.{Flags, nowhere}
 use Rattle.word.proofs.Tests.{both-true, true-both, some-true, Found, some-found, Unmet, unmet-start, unmet-next, unmet-here, unmet-end}
 use Rattle.target.specs.declared.NameNumber.{NameNumber}
+use Rattle.target.proofs.Places.{at-place}
+pub use Rattle.target.proofs.Places.{placed}
 use Rattle.transaction.specs.declared.PackedRefs.{PackedRefs}
 use Rattle.transaction.specs.declared.Edit.{Edit}
 use Rattle.model.specs.Basic.{below, someBelow}
@@ -21,16 +22,11 @@ use Rattle.model.specs.Fine.{aloneLoose, clearRow, fineNests}
 use Rattle.model.proofs.Beneath.{loose-in}
 use Rattle.region.specs.Region.{view, Laid}
 use Rattle.region.proofs.Read.{name-short}
+use Rattle.rows.proofs.Gather.{flag-passed, flag-up}
 use Rattle.nests.specs.Under.{isUp, someHas, chosen, chosenFor, sizeFor, slashed, slashAt, underOne, under, flaggedUnder, noneUnder}
 use Rattle.nests.proofs.Raising.{Raising, raising-start, raising-more, raising-end}
 use Rattle.nests.proofs.Sizes.{unslashed}
 use Rattle.nests.proofs.Rows.{alone-flags}
-
-at-place : (k : NameNumber) (i : ℕ) → k ≡ record { 0 = i } → k .0 ≡ i
-at-place k i e = ap (λ (n : NameNumber). n .0) e
-
-pub placed : (k : NameNumber) (i n : ℕ) → k ≡ record { 0 = i } → i < n → k .0 < n
-placed k i n ek l = let p : k .0 ≡ i = at-place k i ek in omega arith
 
 pub inside : (i m n : ℕ) → i < m → m ≡ n → i < n
 inside i m n l e = rw (← e) l
@@ -88,16 +84,13 @@ module _ (s : Store) (mode : PackedRefs) (writing : Bool) (row : Edit) where
   chosen-will t r er = rw (not-false writing t) er
 
 module _ (s : Store) (mode : PackedRefs) (writing : Bool) (row : Edit) (i : ℕ) (b : Bool) (er : row ≡ rowAt (rowsIn (s .prepared)) i) (eb : b ≡ chosen s mode writing row) where
-  chosen-said : chosen s mode writing (rowAt (rowsIn (s .prepared)) i) ≡ b
-  chosen-said = ap (chosen s mode writing) (sym er) ∙ sym eb
-
   pub row-passed : (flags : List Bool) → not b ≡ true
       → flags ≡ cond (chosen s mode writing (rowAt (rowsIn (s .prepared)) i)) (set flags (nameIn (rowAt (rowsIn (s .prepared)) i) .0) true) flags
-  row-passed flags t = rw (chosen-said ∙ not-true b t) refl
+  row-passed flags t = flag-passed (chosen s mode writing) (rowsIn (s .prepared)) row i b er eb flags t
 
   pub row-raised : (flags flags′ : List Bool) (k : ℕ) → not b ≡ false → k ≡ row .update .name .0 → flags′ ≡ set flags k true
       → flags′ ≡ cond (chosen s mode writing (rowAt (rowsIn (s .prepared)) i)) (set flags (nameIn (rowAt (rowsIn (s .prepared)) i) .0) true) flags
-  row-raised flags flags′ k t ek h = rw (chosen-said ∙ not-false b t) (h ∙ ap (λ (k : ℕ). set flags k true) (ek ∙ ap (λ (r : Edit). nameIn r .0) er))
+  row-raised flags flags′ k t ek h = flag-up (chosen s mode writing) (rowsIn (s .prepared)) row i b er eb flags flags′ k t ek h
 
 abbrev pub named : Store → ℕ → ℕ
 named s i = nameIn (rowAt (rowsIn (s .prepared)) i) .0

@@ -36,19 +36,22 @@ sizeFor s upper l = someHas (λ m. length (entryAt s m .name)) (isUp upper) (cou
 unfoldable pub slashed : List ℕ → List Bool → ℕ → Bool
 slashed name sizes i = eqb (getD name i 0) 47 && isUp sizes i
 
+-- so does some slash of the name
 unfoldable pub slashAt : List ℕ → List Bool → Bool
 slashAt name sizes = someBelow (length name) (slashed name sizes)
 
--- the name lies beneath a flagged one
+-- the name n lies beneath the name m, which is flagged
 unfoldable pub underOne : Store → List Bool → ℕ → ℕ → Bool
 underOne s upper n m = isUp upper m && lies s n m
 
+-- it lies beneath some flagged name
 unfoldable pub under : Store → List Bool → ℕ → Bool
 under s upper n = someBelow (count s) (underOne s upper n)
 
--- no name that is flagged in the first lies beneath one that is flagged in the second
+-- a name that is flagged in the first lies beneath one that is flagged in the second
 unfoldable pub flaggedUnder : Store → List Bool → List Bool → ℕ → Bool
 flaggedUnder s lower upper n = isUp lower n && under s upper n
 
+-- none does
 unfoldable pub noneUnder : Store → List Bool → List Bool → Bool
 noneUnder s lower upper = not (someBelow (count s) (flaggedUnder s lower upper))

@@ -1,6 +1,6 @@
 -- Flags of all elements, gathered in one pass: those that are up, and what is left, decide together. Assumes nothing.
 use mathlib.Core.Path.{_≡_, refl, sym, ap, ap₂, _∙_, subst}
-use mathlib.Core.Bool.{Bool, true, false, _&&_, _||_, cond, and-true, and-false, or-false}
+use mathlib.Core.Bool.{Bool, true, false, _&&_, _||_, not, cond, and-true, and-false, or-false}
 use mathlib.Core.List.{List, [], _∷_}
 use Prim.Native.Nat.{ℕ, suc, _+_, _<_, _≤_}
 use native.Mathlib.Omega.{arith}
@@ -8,12 +8,15 @@ use native.Mathlib.Numerals.{add-one}
 use lib.ListN.{length, getD, set, drop, drop-of-length-le, length-set}
 use lib.Seq.{drop-cons}
 use lib.Dec.{eqb}
+use borrow.Author.Tests.{not-true, not-false}
 use Rattle.word.specs.Flags.{Flags, nowhere}
 use Rattle.word.proofs.Flags.{flag-raised}
 use Rattle.target.specs.declared.NameNumber.{NameNumber}
+use Rattle.transaction.specs.declared.Edit.{Edit}
 use Rattle.model.specs.declared.Line.{Line}
 use Rattle.model.specs.Basic.{any}
 use Rattle.model.specs.Store.{Store, noLine, isOf}
+use Rattle.model.specs.Rows.{nameIn, rowAt}
 use Rattle.model.specs.Due.{hasLines}
 use Rattle.rows.specs.Due.{lined}
 use Rattle.rows.proofs.Laws.{lines-any}
@@ -80,6 +83,19 @@ module _ {A : Type 0} (key : A → ℕ) (ok : A → Bool) (xs : List A) where
   pub gather-to : (d x : A) (k i m : ℕ) (b : Bool) (flags flags′ : List Bool) → Gathering key ok xs i flags → m ≡ length xs → i < m
       → x ≡ getD xs i d → k ≡ key x → b ≡ ok x → flags′ ≡ cond b (set flags k true) flags → Gathering key ok xs (i + 1) flags′
   gather-to d x k i m b flags flags′ g e l ex ek eb h = subst (Gathering key ok xs (i + 1)) (sym h) (gather-more d x k i m b flags g e l ex ek eb)
+
+-- ---- the flag of a row's name goes up if the row passes a test
+
+module _ (p : Edit → Bool) (rows : List Edit) (row : Edit) (i : ℕ) (b : Bool) (er : row ≡ rowAt rows i) (eb : b ≡ p row) where
+  said : p (rowAt rows i) ≡ b
+  said = ap p (sym er) ∙ sym eb
+
+  pub flag-passed : (flags : List Bool) → not b ≡ true → flags ≡ cond (p (rowAt rows i)) (set flags (nameIn (rowAt rows i) .0) true) flags
+  flag-passed flags t = rw (said ∙ not-true b t) refl
+
+  pub flag-up : (flags flags′ : List Bool) (k : ℕ) → not b ≡ false → k ≡ row .update .name .0 → flags′ ≡ set flags k true
+      → flags′ ≡ cond (p (rowAt rows i)) (set flags (nameIn (rowAt rows i) .0) true) flags
+  flag-up flags flags′ k t ek h = rw (said ∙ not-false b t) (h ∙ ap (λ (k : ℕ). set flags k true) (ek ∙ ap (λ (r : Edit). nameIn r .0) er))
 
 -- ---- the names of lines
 

@@ -11,6 +11,7 @@ use borrow.Author.Tests.{lt-ltb, le-ltb, le-leb, eqb-true, eqb-false, ne-eqb, no
 use mir.Val.{Fits}
 use mir.Syntax.{w16, w64}
 use Rattle.word.proofs.Tests.{both-true, every-at, every-false, below-false, below-true, below-more}
+pub use Rattle.target.proofs.Places.{placed}
 use Rattle.target.specs.declared.ObjectNumber.{ObjectNumber}
 use Rattle.target.specs.declared.NameNumber.{NameNumber}
 use Rattle.target.specs.declared.Target.{Target}
@@ -59,10 +60,6 @@ pub loop-done : (i n : ℕ) (p : ℕ → Bool) → below i p ≡ true → i ≤ 
 loop-done i n p h a b = loop-end i n n p h a b refl
 
 -- ---- names and values
-
--- the name at a place below a bound
-pub placed : (n : NameNumber) (i m : ℕ) → n ≡ record { 0 = i } → i < m → n .0 < m
-placed n i m e h = rw e h
 
 positive : (x : ℕ) → not (eqb x 0) ≡ ltb 0 x
 positive x = go (eqb x 0) refl

@@ -592,10 +592,16 @@ fn nested_logs() -> Vec<Named> {
 
 /// Two transactions in one directory: the second finds what the first left. The first makes one write.
 pub fn pairs() -> Vec<(Named, Named)> {
+    [pairs_of_values(), pairs_of_logs()].into_iter().flatten().collect()
+}
+
+fn pair(about: &str, first: Case, second: Named) -> (Named, Named) {
+    (done(about, 1, first), second)
+}
+
+fn pairs_of_values() -> Vec<(Named, Named)> {
     let quiet = || store(0, &NESTED);
-    let logged = || store(1, &NESTED);
     let with = |name: usize| quiet().loose(name, object(7));
-    let pair = |about: &str, first: Case, second: Named| (done(about, 1, first), second);
     vec![
         pair(
             "an object deleted",
@@ -623,6 +629,12 @@ pub fn pairs() -> Vec<(Named, Named)> {
             quiet().packed(1, 7).edit(made(0)),
             refused("an update above a packed value, then that one deleted", 25, with(0).packed(1, 7).edit(delete(1))),
         ),
+    ]
+}
+
+fn pairs_of_logs() -> Vec<(Named, Named)> {
+    let logged = || store(1, &NESTED);
+    vec![
         pair(
             "a log removed beneath a name",
             logged().line(2, 0, 5).edit(delete(2)),
