@@ -60,6 +60,10 @@ pub any-map :
 any-map f p q h [] = refl
 any-map f p q h (a ∷ l) = rw (h a, any-map f p q h l)
 
+pub map-through : {A B C : Type 0} (f : A → B) (g : B → C) (h : A → C) → ((a : A) → g (f a) ≡ h a) → (l : List A) → map g (map f l) ≡ map h l
+map-through f g h e [] = refl
+map-through f g h e (a ∷ l) = rw (e a, map-through f g h e l)
+
 -- ---- what alike rows share
 
 module _ (rows rows′ : List Edit) (e : Alike rows rows′) where
@@ -76,6 +80,9 @@ module _ (rows rows′ : List Edit) (e : Alike rows rows′) where
 
   pub alike-any : (p : Edit → Bool) → ((r : Edit) → p (plain r) ≡ p r) → any p rows ≡ any p rows′
   alike-any p h = sym (any-map plain p p h rows) ∙ ap (any p) e ∙ any-map plain p p h rows′
+
+  pub alike-map : {A : Type 0} (f : Edit → A) → ((r : Edit) → f (plain r) ≡ f r) → map f rows ≡ map f rows′
+  alike-map f h = sym (map-through plain f f h rows) ∙ ap (map f) e ∙ map-through plain f f h rows′
 
   parent-at : (i : ℕ) → rowAt rows i .«parent_index» ≡ rowAt rows′ i .«parent_index»
   parent-at = alike-at (λ (r : Edit). r .«parent_index») (λ r. refl)

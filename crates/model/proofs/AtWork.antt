@@ -4,4 +4,5 @@ pub mod Demand3
 pub mod Marked
 pub mod Open
 pub mod Nested
+pub mod Where
 pub mod Worked

@@ -22,8 +22,7 @@ use Rattle.model.specs.declared.Lock.the-variants.{Ours}
 use Rattle.model.specs.declared.Line.{Line}
 use Rattle.model.specs.Basic.{any}
 use Rattle.model.specs.Names.{isName}
-use Rattle.model.specs.Store.{Store, Prepared, Entry, noEntry, noRow, count, entryAt, entryOf, linesOf, rowsIn, modeIn, isPacked, isLock}
-use Rattle.model.specs.Read.{valueOf}
+use Rattle.model.specs.Store.{Store, Prepared, Entry, noEntry, noRow, count, entryAt, linesOf, rowsIn, modeIn, isPacked, isLock}
 use Rattle.model.specs.Rows.{nameIn, changeIn, rowAt, counts, countsAsUpdate, opens, isDirect, keepsLock}
 use Rattle.model.specs.Due.{Stamp, isLogged, dueLine, dueLines, unsigned}
 use Rattle.model.specs.Fine.{Fine, fineTarget, fineOption, fineLoose, fineEntry, fineLine, fineRow, keptFor, fineLock}
@@ -61,9 +60,6 @@ module _ (s t : Store) (a : Alike s t) where
     pub dueLine-alike : (stamp : Stamp) → dueLine stamp t r ≡ dueLine stamp s r
     unfolding dueLine isLogged linesOf
     dueLine-alike stamp = rw (a .name (nameIn r .0) h, a .lines, a .setting)
-
-    pub valueOf-alike : (seen : Bool) → valueOf seen (entryOf t (nameIn r)) ≡ valueOf seen (entryOf s (nameIn r))
-    valueOf-alike seen = rw (a .loose (nameIn r .0), a .packed (nameIn r .0))
 
   -- of rows whose names are registered
   module _ (rows : List Edit) (h : (i : ℕ) → i < length rows → nameIn (rowAt rows i) .0 < count s) where
@@ -160,7 +156,7 @@ module _ (s t : Store) (f : Fine s) (a : Alike s t) (o : Held s t) where
       ∙ any-same (keptBy t n (s .prepared)) (keptBy s n (s .prepared)) noRow (rowsIn (s .prepared))
       (λ i h. rw (keepsLock-alike s t a (rowAt (rowsIn (s .prepared)) i) (names i h) (modeIn (s .prepared))))
 
-  opening-alike : opens t (modeIn (t .prepared)) (rowsIn (t .prepared)) ≡ opens s (modeIn (s .prepared)) (rowsIn (s .prepared))
+  pub opening-alike : opens t (modeIn (t .prepared)) (rowsIn (t .prepared)) ≡ opens s (modeIn (s .prepared)) (rowsIn (s .prepared))
   opening-alike =
       ap (λ (p : Option Prepared). opens t (modeIn p) (rowsIn p)) (o .prepared)
       ∙ opens-alike s t a (rowsIn (s .prepared)) names (modeIn (s .prepared))

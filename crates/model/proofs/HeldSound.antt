@@ -180,7 +180,14 @@ module _ (p : Prepared) (s t : Store) (h : Holds p s t) (f : Fine s) where
       here : valueOf (opens s (p .mode) (p .rows)) (entryAt t n) ≡ valueOf (opens s (p .mode) (p .rows)) (entryAt s n)
       here = same-at t s (h .refs) (valueOf (opens s (p .mode) (p .rows))) (λ x. refl) n
 
--- ---- preparing, with nothing prepared before
+-- ---- preparing
+
+-- it leaves the refs and the logs
+pub held-refs : (s : Store) (p : Prepared) → SameRefs (held p s) s
+unfolding held
+held-refs s p = record { refs = holding-refs s (p .mode) (p .rows) (s .entries); lines = refl; setting = refl }
+
+-- with nothing prepared before
 
 module _ (s : Store) (f : Fine s) (idle : s .prepared ≡ none) where
   -- no lock is ours
@@ -196,7 +203,7 @@ module _ (s : Store) (f : Fine s) (idle : s .prepared ≡ none) where
   unfolding held
   held-holds p = record {
     prepared = refl;
-    refs = record { refs = holding-refs s (p .mode) (p .rows) (s .entries); lines = refl; setting = refl };
+    refs = held-refs s p;
     locks = λ n h. holding-ours s (p .mode) (p .rows) (s .entries) n h ∙ rw (free n h) (or-false _);
     packedLock = packed (opens s (p .mode) (p .rows));
   }

@@ -20,18 +20,9 @@ use Rattle.model.proofs.KeptSimple.{Rule, ruleFine, ruleSound}
 use Rattle.model.proofs.KeptSimple as simple
 use Rattle.model.proofs.KeptCommit.{commit-kept}
 
--- one proof for both: P is the rules, or what holds of every reached store
-module _ (P : Store → Type 0) (rule : Rule P) (s : Store) (here : P s) where
-  -- prepare: refused, or the store that is sound
-  prepare-kept : (list : List ℕ) (mode : ℕ) → P (leaves (step (prepare list mode) s) s)
-  unfolding step rowsPrepared
-  prepare-kept list mode = go (rowsFor list mode s) refl
-    where
-      go : (o : Outcome Prepared) → rowsFor list mode s ≡ o → P (leaves (step (prepare list mode) s) s)
-      go (refuse r) e = rw e here
-      go (pass q) e = rw e (rule .sound _ (prepare-sound s (rule .fine s here) list mode q e))
-
-  call-kept : (c : Call) → P (leaves (step c s) s)
+-- one proof for all that obeys the rule, where prepare keeps it
+module _ (P : Store → Type 0) (rule : Rule P) (s : Store) (here : P s) (prepares : (list : List ℕ) (mode : ℕ) → P (leaves (step (prepare list mode) s) s)) where
+  pub call-kept : (c : Call) → P (leaves (step c s) s)
   call-kept (start k) = simple.start-kept P rule s here k
   call-kept (addName bytes) = simple.addName-kept P rule s here bytes
   call-kept (nameBytes n) = simple.nameBytes-kept P rule s here n
@@ -41,18 +32,31 @@ module _ (P : Store → Type 0) (rule : Rule P) (s : Store) (here : P s) where
   call-kept (unlockName n) = simple.unlockName-kept P rule s here n
   call-kept lockPacked = simple.lockPacked-kept P rule s here
   call-kept unlockPacked = simple.unlockPacked-kept P rule s here
-  call-kept (prepare list mode) = prepare-kept list mode
+  call-kept (prepare list mode) = prepares list mode
   call-kept (commit c k) = commit-kept P rule s here c k
   call-kept rollback = simple.rollback-kept P rule s here
   call-kept (readName n) = simple.readName-kept P rule s here n
   call-kept (readLine n place) = simple.readLine-kept P rule s here n place
   call-kept (readRow place) = simple.readRow-kept P rule s here place
 
+-- of the rules, and of what holds of every reached store: prepare is refused, or leaves a store that is sound
+module _ (P : Store → Type 0) (rule : Rule P) (holds : (s : Store) → Sound s → P s) (s : Store) (here : P s) where
+  prepare-kept : (list : List ℕ) (mode : ℕ) → P (leaves (step (prepare list mode) s) s)
+  unfolding step rowsPrepared
+  prepare-kept list mode = go (rowsFor list mode s) refl
+    where
+      go : (o : Outcome Prepared) → rowsFor list mode s ≡ o → P (leaves (step (prepare list mode) s) s)
+      go (refuse r) e = rw e here
+      go (pass q) e = rw e (holds _ (prepare-sound s (rule .fine s here) list mode q e))
+
+  all-kept : (c : Call) → P (leaves (step c s) s)
+  all-kept = call-kept P rule s here prepare-kept
+
 pub kept : Kept
-kept = call-kept Fine ruleFine
+kept = all-kept Fine ruleFine (λ s h. h .fine)
 
 pub sound : (s : Store) → Sound s → (c : Call) → Sound (leaves (step c s) s)
-sound = call-kept Sound ruleSound
+sound = all-kept Sound ruleSound (λ s h. h)
 
 pub reached-sound : ReachedSound
 reached-sound s (begun setting) = fine-sound (empty setting) (simple.empty-fine setting) refl

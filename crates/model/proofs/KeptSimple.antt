@@ -40,15 +40,14 @@ use Rattle.model.proofs.Grown.{line-grows, entry-grows, Alike, Held, al
 -- over to a store that differs in locks of others and in new names alone
 pub record Rule (P : Store → Type 0) : Type 0 where
   pub fine : (s : Store) → P s → Fine s
-  pub sound : (s : Store) → Sound s → P s
   pub idle : (s : Store) → Fine s → s .prepared ≡ none → P s
   pub alike : (s t : Store) → P s → Alike s t → Held s t → Base t → P t
 
 pub ruleFine : Rule Fine
-ruleFine = record { fine = λ s f. f; sound = λ s h. h .fine; idle = λ s f e. f; alike = alike-fine }
+ruleFine = record { fine = λ s f. f; idle = λ s f e. f; alike = alike-fine }
 
 pub ruleSound : Rule Sound
-ruleSound = record { fine = λ s f. f .fine; sound = λ s h. h; idle = fine-sound; alike = alike-sound }
+ruleSound = record { fine = λ s f. f .fine; idle = fine-sound; alike = alike-sound }
 
 -- after commit or rollback
 pub released-kept : (P : Store → Type 0) → Rule P → (s : Store) → Base s → Alone s → P (released s)

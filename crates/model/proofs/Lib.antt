@@ -37,3 +37,4 @@ pub mod Moments
 pub mod Logs
 pub mod Prefixes
 pub mod Demand3
+pub mod Where

@@ -11,6 +11,7 @@ use Rattle.target.specs.declared.Target.the-variants.{Object, Symbolic}
 use Rattle.target.specs.declared.OptionTarget.{OptionTarget}
 use Rattle.target.specs.declared.OptionTarget.the-variants.{Absent, Present}
 use Rattle.target.specs.Target.{sameOption}
+use Rattle.target.specs.Found.{valueIn}
 use Rattle.target.proofs.Laws.{option-true}
 use Rattle.transaction.specs.declared.RefLog.the-variants.{AndReference}
 use Rattle.transaction.specs.declared.LogChange.{LogChange}
@@ -25,7 +26,7 @@ use Rattle.model.specs.declared.Loose.the-variants as loose
 use Rattle.model.specs.declared.Packed.{Packed}
 use Rattle.model.specs.declared.Packed.the-variants as packed
 use Rattle.model.specs.Store.{Entry, isNone, isPacked, putLoose, putPacked}
-use Rattle.model.specs.Read.{packedValue, looseOr, valueOf}
+use Rattle.model.specs.Read.{foundIn, valueOf}
 use Rattle.target.specs.Target.{isObject, isSymbolic}
 use Rattle.model.specs.Rows.{packsUpdates}
 use Rattle.model.proofs.RowSteps.{directIf, goesIf, looseSet, packedMoved, looseGone, setPacked}
@@ -114,7 +115,7 @@ seen-too : (o : Bool) (e : Entry) {t : Target} → valueOf o e ≡ Present t →
 seen-too true e h = h
 seen-too false e {t} h = go (e .loose) h
   where
-    go : (l : Loose) → looseOr l Absent ≡ Present t → looseOr l (packedValue true (e .packed)) ≡ Present t
+    go : (l : Loose) → valueIn (foundIn l packed.None) ≡ Present t → valueIn (foundIn l (e .packed)) ≡ Present t
     go loose.None q = absurd (let z : _≡_ {A = ℕ} 0 1 = cc in omega arith)
     go (loose.Target u) q = q
     go loose.Broken q = absurd (let z : _≡_ {A = ℕ} 0 1 = cc in omega arith)
@@ -123,7 +124,7 @@ seen-too false e {t} h = go (e .loose) h
 packed-again : (t : Target) (e : Entry) → valueOf true e ≡ Present t → valueOf true (setPacked (Present t) e) ≡ Present t
 packed-again (Object o) e h = go (e .loose) h
   where
-    go : (l : Loose) → looseOr l (packedValue true (e .packed)) ≡ Present (Object o) → looseOr l (Present (Object o)) ≡ Present (Object o)
+    go : (l : Loose) → valueIn (foundIn l (e .packed)) ≡ Present (Object o) → valueIn (foundIn l (packed.Object o)) ≡ Present (Object o)
     go loose.None q = refl
     go (loose.Target u) q = q
     go loose.Broken q = refl
@@ -176,36 +177,44 @@ module _ (mode : PackedRefs) (o p : Bool) (log : LogChange) (expected : Previous
 
 -- ---- a direct update, or a deletion: a loose target shows until W4 removes it, and what W3 packed behind it from then on
 
+-- what shows of a packed value by itself, and behind a broken loose one too
+abbrev packedValue : Packed → OptionTarget
+packedValue v = valueIn (foundIn loose.None v)
+
+behind-broken : (v : Packed) → valueIn (foundIn loose.Broken v) ≡ packedValue v
+behind-broken packed.None = refl
+behind-broken (packed.Object o) = refl
+
 -- behind a loose target nothing shows
 behind-loose : (e : Entry) (v : Packed)
-    → (valueOf true (putPacked v e) ≡ valueOf true e) ⊎ (valueOf true (putPacked v e) ≡ packedValue true v)
+    → (valueOf true (putPacked v e) ≡ valueOf true e) ⊎ (valueOf true (putPacked v e) ≡ packedValue v)
 behind-loose e v = go (e .loose)
   where
     go : (l : Loose)
-        → (looseOr l (packedValue true v) ≡ looseOr l (packedValue true (e .packed))) ⊎ (looseOr l (packedValue true v) ≡ packedValue true v)
+        → (valueIn (foundIn l v) ≡ valueIn (foundIn l (e .packed))) ⊎ (valueIn (foundIn l v) ≡ packedValue v)
     go loose.None = inr refl
     go (loose.Target t) = inl refl
-    go loose.Broken = inr refl
+    go loose.Broken = inr (behind-broken v)
 
 -- with the loose value gone, the packed one does
 loose-gone : (e : Entry) (v : Packed)
-    → valueOf true (cond (not (isNone (e .loose))) (putLoose loose.None (putPacked v e)) (putPacked v e)) ≡ packedValue true v
+    → valueOf true (cond (not (isNone (e .loose))) (putLoose loose.None (putPacked v e)) (putPacked v e)) ≡ packedValue v
 loose-gone e v = go (e .loose)
   where
     go : (l : Loose)
         → valueOf true (cond (not (isNone l)) (putLoose loose.None (putPacked v (putLoose l e))) (putPacked v (putLoose l e)))
-        ≡ packedValue true v
+        ≡ packedValue v
     go loose.None = refl
     go (loose.Target t) = refl
     go loose.Broken = refl
 
 module _ (mode : PackedRefs) (o p : Bool) (c : Change) (e : Entry) (v : Packed) where
   late-by : after1 mode p c e ≡ e → after3 mode o p c e ≡ putPacked v e
-      → goesIf mode p c (e .loose) ≡ not (isNone (e .loose)) → target c e ≡ packedValue true v → Late mode o p c e
+      → goesIf mode p c (e .loose) ≡ not (isNone (e .loose)) → target c e ≡ packedValue v → Late mode o p c e
   late-by one three goes new =
       record { left = one; between = go (behind-loose e v); gone = rw (goes, three) (loose-gone e v ∙ sym new) }
     where
-      go : (valueOf true (putPacked v e) ≡ valueOf true e) ⊎ (valueOf true (putPacked v e) ≡ packedValue true v)
+      go : (valueOf true (putPacked v e) ≡ valueOf true e) ⊎ (valueOf true (putPacked v e) ≡ packedValue v)
           → (valueOf true (after3 mode o p c e) ≡ valueOf true e) ⊎ (valueOf true (after3 mode o p c e) ≡ target c e)
       go (inl h) = inl (ap (valueOf true) three ∙ h)
       go (inr h) = inr (ap (valueOf true) three ∙ h ∙ sym new)

@@ -8,7 +8,7 @@ use native.Mathlib.Omega.{arith}
 use native.Mathlib.Decide.{decLt}
 use lib.ListN.{length, List·getD-eq-default}
 use lib.Dec.{ltb}
-use Rattle.target.specs.declared.OptionTarget.{OptionTarget}
+use Rattle.target.specs.Found.{valueIn}
 use Rattle.transaction.specs.declared.Edit.{Edit}
 use Rattle.transaction.specs.Change.{newValue, previousValue, messageOf}
 use Rattle.model.specs.declared.Loose.{Loose}
@@ -16,7 +16,7 @@ use Rattle.model.specs.declared.Loose.the-variants as loose
 use Rattle.model.specs.declared.Packed.{Packed}
 use Rattle.model.specs.declared.Packed.the-variants as packed
 use Rattle.model.specs.Store.{Store, Entry, noRow, noEntry, count, entryOf, isId}
-use Rattle.model.specs.Read.{packedValue, looseOr, valueOf}
+use Rattle.model.specs.Read.{packedSeen, foundIn, valueOf}
 use Rattle.model.specs.Rows.{nameIn, changeIn, rowAt}
 use Rattle.model.specs.Fine.{fineOption, fineLoose, finePacked, entryTests, fineEntry, fineRow, Fine}
 use Rattle.model.specs.Prepare.{existing}
@@ -28,17 +28,17 @@ use Rattle.model.proofs.Alike.{Alike, new-plain, message-plain, alike-l
 -- ---- what a name reads, with the packed table seen or not
 
 module _ (n : ℕ) where
-  looseOr-fine :
-      (l : Loose) (x : OptionTarget) → fineLoose n l ≡ true → fineOption n x ≡ true → fineOption n (looseOr l x) ≡ true
-  looseOr-fine loose.None x p q = q
-  looseOr-fine (loose.Target t) x p q = p
-  looseOr-fine loose.Broken x p q = q
+  found-fine : (name : List ℕ) (l : Loose) (p : Packed) → fineLoose n l ≡ true → finePacked name p ≡ true
+      → fineOption n (valueIn (foundIn l p)) ≡ true
+  found-fine name (loose.Target t) p f g = f
+  found-fine name loose.None (packed.Object o) f g = both-true (isId (o .0)) _ g .0
+  found-fine name loose.Broken (packed.Object o) f g = both-true (isId (o .0)) _ g .0
+  found-fine name loose.None packed.None f g = refl
+  found-fine name loose.Broken packed.None f g = refl
 
-  packedValue-fine :
-      (name : List ℕ) (seen : Bool) (p : Packed) → finePacked name p ≡ true → fineOption n (packedValue seen p) ≡ true
-  packedValue-fine name true packed.None h = refl
-  packedValue-fine name true (packed.Object o) h = both-true (isId (o .0)) _ h .0
-  packedValue-fine name false p h = refl
+  seen-fine : (name : List ℕ) (seen : Bool) (p : Packed) → finePacked name p ≡ true → finePacked name (packedSeen seen p) ≡ true
+  seen-fine name true p h = h
+  seen-fine name false p h = refl
 
   noEntry-fine : (seen : Bool) → fineOption n (valueOf seen noEntry) ≡ true
   noEntry-fine true = refl
@@ -47,7 +47,7 @@ module _ (n : ℕ) where
   pub value-fine : (seen : Bool) (e : Entry) → fineEntry n e ≡ true → fineOption n (valueOf seen e) ≡ true
   unfolding fineEntry
   value-fine seen e h =
-      looseOr-fine (e .loose) _ (every-at (entryTests n e) 1 h) (packedValue-fine (e .name) seen (e .packed) (every-at (entryTests n e) 2 h))
+      found-fine (e .name) (e .loose) _ (every-at (entryTests n e) 1 h) (seen-fine (e .name) seen (e .packed) (every-at (entryTests n e) 2 h))
 
 pub existing-fine : (s : Store) → Fine s → (opened : Bool) (r : Edit) → fineOption (count s) (existing s opened r) ≡ true
 existing-fine s f opened r = go (decLt (nameIn r .0) (count s))

@@ -1,16 +1,18 @@
 -- Transactions and reads, and the step: the 15 calls as one function.
-use mathlib.Core.Bool.{not}
+use mathlib.Core.Bool.{true, not}
 use mathlib.Core.List.{List}
 use mathlib.Core.Option.{Option, none, some}
 use Prim.Native.Nat.{ℕ}
 use lib.ListN.{length, getD}
 use lib.Dec.{ltb, leb}
+use Rattle.target.specs.declared.Found.{Found}
+use Rattle.transaction.specs.declared.Edit.{Edit}
 use Rattle.model.specs.declared.Refusal.the-variants.{Malformed, WrongState, NothingThere}
-use Rattle.model.specs.Store.{Store, linesOf, rowsIn, isPrepared, noLine}
-use Rattle.model.specs.Read.{reading}
-use Rattle.model.specs.Rows.{rowAt}
+use Rattle.model.specs.Store.{Store, entryOf, linesOf, rowsIn, modeIn, isPrepared, noLine}
+use Rattle.model.specs.Read.{foundOf}
+use Rattle.model.specs.Rows.{rowAt, opens}
 use Rattle.model.specs.Outcome.{refuseIf}
-use Rattle.model.specs.Prepare.{rowsFor, held}
+use Rattle.model.specs.Prepare.{existingFound, rowsFor, held}
 use Rattle.model.specs.Commit.{Run, Stop, committing, released}
 use Rattle.model.specs.Reply.{Call, Reply, _>>=_, _>>_, known}
 use Rattle.model.specs.Reply.Call.{start, addName, nameBytes, loadLoose, loadPacked, lockName, unlockName, lockPacked, unlockPacked, prepare, commit, rollback, readName, readLine, readRow}
@@ -47,7 +49,7 @@ rolledBack s = done (released s) (number (length (rowsIn (s .prepared))))
 unfoldable pub nameRead : ℕ → Store → Reply
 nameRead n s = do
   known n s
-  done s (value (reading s (record { 0 = n })))
+  done s (value (foundOf true (entryOf s (record { 0 = n }))))
 
 -- a log line by name and place among its lines
 unfoldable pub lineRead : ℕ → ℕ → Store → Reply
@@ -56,10 +58,14 @@ lineRead n place s = do
   refuseIf (leb (length (linesOf s (record { 0 = n }))) place) NothingThere
   done s (line (getD (linesOf s (record { 0 = n })) place noLine))
 
+-- where R3 found the existing value of a prepared row. It is not stored: it follows from the values and from the opening
+unfoldable pub rowFound : Store → Edit → Found
+rowFound s r = existingFound s (opens s (modeIn (s .prepared)) (rowsIn (s .prepared))) r
+
 unfoldable pub rowRead : ℕ → Store → Reply
 rowRead place s = do
   refuseIf (leb (length (rowsIn (s .prepared))) place) NothingThere
-  done s (row (rowAt (rowsIn (s .prepared)) place))
+  let r : Edit = rowAt (rowsIn (s .prepared)) place in done s (row r (rowFound s r))
 
 -- ---- the step
 

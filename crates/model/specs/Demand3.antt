@@ -58,9 +58,9 @@ abbrev pub countIn : Given → Option ℕ
 countIn nothing = none
 countIn (number n) = some n
 countIn (bytesOf n) = none
-countIn (value t) = none
+countIn (value x) = none
 countIn (line l) = none
-countIn (row r) = none
+countIn (row r x) = none
 
 abbrev pub reported : Reply → Option ℕ
 reported (done s given) = countIn given

@@ -20,3 +20,4 @@ pub mod Numbers
 pub mod Reached
 pub mod Demand3
 pub mod Kept
+pub mod Where

@@ -6,7 +6,9 @@ use lib.ListN.{length, replicate}
 use Rattle.target.specs.declared.Target.{Target}
 use Rattle.target.specs.declared.OptionTarget.{OptionTarget}
 use Rattle.target.specs.declared.OptionTarget.the-variants.{Present}
-use Rattle.target.specs.Fields.{targetByte, targetNumber}
+use Rattle.target.specs.declared.Found.{Found}
+use Rattle.target.specs.Found.{valueIn}
+use Rattle.target.specs.Fields.{targetByte, targetNumber, placeNumber}
 use Rattle.transaction.specs.declared.ParentIndex.{ParentIndex}
 use Rattle.transaction.specs.declared.ParentIndex.the-variants.{NoParent, Parent}
 use Rattle.transaction.specs.declared.Edit.{Edit}
@@ -37,6 +39,10 @@ optionPlaces t = targetByte t ∷ targetNumber t ∷ []
 
 abbrev pub targetPlaces : Target → List ℕ
 targetPlaces t = optionPlaces (Present t)
+
+-- what a name reads is three: the value's two, and where it was found
+abbrev pub foundPlaces : Found → List ℕ
+foundPlaces x = optionPlaces (valueIn x) ++ (placeNumber x ∷ [])
 
 -- ---- refusals
 
@@ -99,9 +105,9 @@ abbrev pub givenPlaces : (ℕ → ℕ) → Store → Given → List ℕ
 givenPlaces offset s nothing = []
 givenPlaces offset s (number n) = n ∷ []
 givenPlaces offset s (bytesOf n) = offset n ∷ length (entryAt s n .name) ∷ []
-givenPlaces offset s (value t) = optionPlaces t
+givenPlaces offset s (value x) = foundPlaces x
 givenPlaces offset s (line l) = l .previous .0 ∷ l .new .0 ∷ l .committer ∷ l .message ∷ []
-givenPlaces offset s (row r) = rowPlaces r
+givenPlaces offset s (row r x) = rowPlaces r ++ (placeNumber x ∷ [])
 
 -- ---- the reply
 

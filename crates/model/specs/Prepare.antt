@@ -10,6 +10,8 @@ use Rattle.target.specs.declared.OptionObject.the-variants.{NoId, Id}
 use Rattle.target.specs.declared.ObjectNumber.{ObjectNumber}
 use Rattle.target.specs.declared.OptionTarget.{OptionTarget}
 use Rattle.target.specs.declared.OptionTarget.the-variants.{Absent, Present}
+use Rattle.target.specs.declared.Found.{Found}
+use Rattle.target.specs.Found.{valueIn}
 use Rattle.transaction.specs.declared.PreviousValue.the-variants.{MustExistAndMatch}
 use Rattle.transaction.specs.declared.Change.{Change}
 use Rattle.transaction.specs.declared.Change.the-variants.{Update, Delete}
@@ -23,7 +25,7 @@ use Rattle.model.specs.declared.Refusal.{Refusal}
 use Rattle.model.specs.declared.Refusal.the-variants.{Malformed, NotRegistered, PackedTransactionAcquire, LockAcquire, LogFull, WrongState, NameConflict}
 use Rattle.model.specs.Basic.{any, collect}
 use Rattle.model.specs.Store.{Store, Entry, Prepared, count, entryOf, isPrepared, isLock, putLock, changeAt}
-use Rattle.model.specs.Read.{valueOf}
+use Rattle.model.specs.Read.{foundOf}
 use Rattle.model.specs.Rows.{nameIn, changeIn, rowAt, ancestors, topmost, counts, opens, keepsLock}
 use Rattle.model.specs.EditList.{editsOf, numbersOf, firstOut}
 use Rattle.model.specs.Outcome.{Outcome, _>>=_, _>>_, refuseIf, orRefuse}
@@ -56,9 +58,12 @@ opening s mode rows =
 abbrev pub lockTest : Store → List Edit → ℕ → Option Refusal
 lockTest s rows i = cond (isLock Foreign (entryOf s (nameIn (rowAt rows i)) .lock)) (some (LockAcquire (topmost rows i))) none
 
--- R3: the existing value; without opening, packed values are not seen
+-- R3: the existing value, and where it is found; without opening, packed values are not seen
+abbrev pub existingFound : Store → Bool → Edit → Found
+existingFound s opened r = foundOf opened (entryOf s (nameIn r))
+
 abbrev pub existing : Store → Bool → Edit → OptionTarget
-existing s opened r = valueOf opened (entryOf s (nameIn r))
+existing s opened r = valueIn (existingFound s opened r)
 
 -- 25: a name above or beneath is in the way; the name is the row's own
 abbrev pub conflictTest : Store → PackedRefs → Bool → List Edit → ℕ → Option Refusal

@@ -3,7 +3,7 @@ use mathlib.Core.Bool.{not}
 use mathlib.Core.List.{List}
 use Prim.Native.Nat.{ℕ}
 use lib.Dec.{ltb}
-use Rattle.target.specs.declared.OptionTarget.{OptionTarget}
+use Rattle.target.specs.declared.Found.{Found}
 use Rattle.transaction.specs.declared.Edit.{Edit}
 use Rattle.model.specs.declared.Line.{Line}
 use Rattle.model.specs.declared.Refusal.{Refusal}
@@ -31,14 +31,14 @@ pub data Call : Type 0 where
   readLine : ℕ → ℕ → Call
   readRow : ℕ → Call
 
--- what a call gives when it is done
+-- what a call gives when it is done: of a name its value and where it was found, of a row also where its existing value was
 pub data Given : Type 0 where
   nothing : Given
   number : ℕ → Given
   bytesOf : ℕ → Given
-  value : OptionTarget → Given
+  value : Found → Given
   line : Line → Given
-  row : Edit → Given
+  row : Edit → Found → Given
 
 -- done, with the new store; stopped (16 or 17), with the new store and the writes made; or refused
 pub data Reply : Type 0 where

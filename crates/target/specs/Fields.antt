@@ -9,6 +9,8 @@ use Rattle.target.specs.declared.OptionObject.the-variants.{NoId, Id}
 use Rattle.target.specs.declared.Target.the-variants.{Object, Symbolic}
 use Rattle.target.specs.declared.OptionTarget.{OptionTarget}
 use Rattle.target.specs.declared.OptionTarget.the-variants.{Absent, Present}
+use Rattle.target.specs.declared.Found.{Found}
+use Rattle.target.specs.declared.Found.the-variants as found
 
 -- names are numbered from 0, where so many are registered
 abbrev pub nameBelow : ℕ → ℕ → OptionName
@@ -29,3 +31,11 @@ abbrev pub targetNumber : OptionTarget → ℕ
 targetNumber Absent = 0
 targetNumber (Present (Object o)) = o .0
 targetNumber (Present (Symbolic n)) = n .0
+
+-- 2026-04: the place where a value was found, in an answer
+abbrev pub placeNumber : Found → ℕ
+placeNumber (found.Loose t) = 1
+placeNumber (found.Packed o) = 2
+placeNumber (found.PackedBehindBroken o) = 3
+placeNumber found.Absent = 4
+placeNumber found.AbsentBehindBroken = 5

@@ -1,2 +1,3 @@
 pub mod Target
 pub mod Fields
+pub mod Found

@@ -6,7 +6,8 @@ ghost use mathlib.Core.Path.{_≡_};
 ghost use Prim.Native.Nat.{_<_, _≤_};
 ghost use Rattle.target.specs.Target.{isNull, kindOf, tryId, tryName, same, sameName, sameObject, sameOption};
 ghost use Rattle.target.specs.Target.{isObject, isSymbolic};
-ghost use Rattle.target.specs.Fields.{nameBelow, objectOf, targetByte, targetNumber};
+ghost use Rattle.target.specs.Fields.{nameBelow, objectOf, targetByte, targetNumber, placeNumber};
+ghost use Rattle.target.specs.Found.{valueIn};
 
 // The number of a registered name, from 0 in order of arrival.
 pub struct NameNumber(pub u16);
@@ -222,6 +223,52 @@ impl OptionTarget {
         match target {
             Target::Object(oid) => oid.0,
             Target::Symbolic(name) => name.0 as u64,
+        }
+    }
+}
+
+// What reading a name comes to: the value, and the place where it was found. A broken loose value hides no packed one.
+pub enum Found {
+    Loose(Target),
+    Packed(ObjectNumber),
+    PackedBehindBroken(ObjectNumber),
+    Absent,
+    AbsentBehindBroken,
+}
+
+// The places as numbers in an answer.
+impl Found {
+    pub const LOOSE: u64 = 1;
+
+    pub const PACKED: u64 = 2;
+
+    pub const PACKED_BEHIND_BROKEN: u64 = 3;
+
+    pub const ABSENT: u64 = 4;
+
+    pub const ABSENT_BEHIND_BROKEN: u64 = 5;
+
+    pub fn value(self) -> OptionTarget
+        ensures { λ r. ⌜ r ≡ valueIn self ⌝ }
+    {
+        match self {
+            Found::Loose(target) => OptionTarget::Present(target),
+            Found::Packed(oid) => OptionTarget::Present(Target::Object(oid)),
+            Found::PackedBehindBroken(oid) => OptionTarget::Present(Target::Object(oid)),
+            Found::Absent => OptionTarget::Absent,
+            Found::AbsentBehindBroken => OptionTarget::Absent,
+        }
+    }
+
+    pub fn place(self) -> u64
+        ensures { λ r. ⌜ r ≡ placeNumber self ⌝ }
+    {
+        match self {
+            Found::Loose(_) => Found::LOOSE,
+            Found::Packed(_) => Found::PACKED,
+            Found::PackedBehindBroken(_) => Found::PACKED_BEHIND_BROKEN,
+            Found::Absent => Found::ABSENT,
+            Found::AbsentBehindBroken => Found::ABSENT_BEHIND_BROKEN,
         }
     }
 }

@@ -45,13 +45,13 @@ marked =
       made = site;
       lines =
           prepare whole 1 ⇒ answer 0 (2 ∷ [])
-          ∷ readRow 0 ⇒ answer 0 (HEAD ∷ 1 ∷ 1 ∷ 0 ∷ 3 ∷ 3 ∷ 2 ∷ aisle ∷ 1 ∷ 7 ∷ 0 ∷ 0 ∷ 0 ∷ [])
-          ∷ readRow 1 ⇒ answer 0 (aisle ∷ 1 ∷ 0 ∷ 0 ∷ 3 ∷ 0 ∷ 0 ∷ 0 ∷ 1 ∷ 7 ∷ 1 ∷ 0 ∷ 0 ∷ [])
+          ∷ readRow 0 ⇒ answer 0 (HEAD ∷ 1 ∷ 1 ∷ 0 ∷ 3 ∷ 3 ∷ 2 ∷ aisle ∷ 1 ∷ 7 ∷ 0 ∷ 0 ∷ 0 ∷ 1 ∷ [])
+          ∷ readRow 1 ⇒ answer 0 (aisle ∷ 1 ∷ 0 ∷ 0 ∷ 3 ∷ 0 ∷ 0 ∷ 0 ∷ 1 ∷ 7 ∷ 1 ∷ 0 ∷ 0 ∷ 4 ∷ [])
           ∷ inOrder (logMoves HEAD 0 7 ∷ logMoves aisle 0 7 ∷ looseBecomes aisle (the 7) ∷ [])
           ∷ commit 1 100 ⇒ answer 0 (3 ∷ [])
           ∷ readLine HEAD 0 ⇒ answer 0 (0 ∷ 7 ∷ 1 ∷ 3 ∷ [])
           ∷ readLine aisle 0 ⇒ answer 0 (0 ∷ 7 ∷ 1 ∷ 3 ∷ [])
-          ∷ readName aisle ⇒ answer 0 (1 ∷ 7 ∷ [])
+          ∷ readName aisle ⇒ answer 0 (1 ∷ 7 ∷ 1 ∷ [])
           ∷ [];
     }
     ∷ record {
@@ -71,7 +71,7 @@ marked =
           prepare (list (through (update HEAD (object 9)) ∷ [])) 1 ⇒ answer 0 (2 ∷ [])
           ∷ inOrder []
           ∷ commit 1 100 ⇒ answer 0 (0 ∷ [])
-          ∷ readName aisle ⇒ answer 0 (1 ∷ 9 ∷ [])
+          ∷ readName aisle ⇒ answer 0 (1 ∷ 9 ∷ 1 ∷ [])
           ∷ [];
     }
     ∷ record {
@@ -85,7 +85,7 @@ marked =
       store = blank;
       made = site ++ moved whole ++ moved (list (through (update HEAD (object 9)) ∷ [])) ++ moved (list (through (update HEAD (object 9)) ∷ []));
       lines =
-          readName aisle ⇒ answer 0 (1 ∷ 9 ∷ [])
+          readName aisle ⇒ answer 0 (1 ∷ 9 ∷ 1 ∷ [])
           ∷ prepare (list (through (matching 3 (object 9) (delete HEAD)) ∷ [])) 1 ⇒ answer 12 (HEAD ∷ 1 ∷ 9 ∷ 2 ∷ aisle ∷ [])
           ∷ [];
     }

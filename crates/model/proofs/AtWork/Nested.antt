@@ -115,8 +115,8 @@ aboveWriting =
       lines =
           inOrder (logMoves a 0 7 ∷ writePacked (packedBecomes a 7 ∷ []) ∷ [])
           ∷ commit 1 100 ⇒ answer 0 (2 ∷ [])
-          ∷ readName a ⇒ answer 0 (1 ∷ 7 ∷ [])
-          ∷ readName b ⇒ answer 0 (1 ∷ 5 ∷ [])
+          ∷ readName a ⇒ answer 0 (1 ∷ 7 ∷ 2 ∷ [])
+          ∷ readName b ⇒ answer 0 (1 ∷ 5 ∷ 1 ∷ [])
           ∷ [];
     }
     ∷ record {
@@ -177,7 +177,7 @@ packedAlone =
           ∷ commit 1 100 ⇒ answer 0 (1 ∷ [])
           ∷ prepare (list (update b (object 7) ∷ [])) 1 ⇒ answer 0 (1 ∷ [])
           ∷ commit 1 100 ⇒ answer 0 (2 ∷ [])
-          ∷ readName b ⇒ answer 0 (1 ∷ 7 ∷ [])
+          ∷ readName b ⇒ answer 0 (1 ∷ 7 ∷ 1 ∷ [])
           ∷ [];
     }
     ∷ []
@@ -193,7 +193,7 @@ packedBeneath =
       store = blank;
       made = names ++ (prepare (list (update b (object 7) ∷ [])) 3 ∷ commit 1 100 ∷ prepare (list (update a (object 5) ∷ [])) 1 ∷ commit 1 100 ∷ []);
       lines =
-          readName b ⇒ answer 0 (1 ∷ 7 ∷ [])
+          readName b ⇒ answer 0 (1 ∷ 7 ∷ 2 ∷ [])
           ∷ prepare (list (delete b ∷ [])) 1 ⇒ answer 25 (b ∷ [])
           ∷ prepare (list (delete a ∷ [])) 1 ⇒ answer 0 (1 ∷ [])
           ∷ commit 1 100 ⇒ answer 0 (2 ∷ [])

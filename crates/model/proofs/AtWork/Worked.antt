@@ -167,7 +167,7 @@ worked =
           ∷ commit 0 100 ⇒ answer 16 (0 ∷ [])
           ∷ prepare (list (through (update HEAD (object 7)) ∷ [])) 1 ⇒ answer 0 (2 ∷ [])
           ∷ commit 1 2 ⇒ answer 17 (2 ∷ [])
-          ∷ readName aisle ⇒ answer 0 []
+          ∷ readName aisle ⇒ answer 0 (0 ∷ 0 ∷ 4 ∷ [])
           ∷ readLine aisle 0 ⇒ answer 0 (0 ∷ 7 ∷ 1 ∷ 3 ∷ [])
           ∷ readRow 0 ⇒ answer 22 []
           ∷ [];
@@ -309,7 +309,7 @@ worked =
       lines =
           inOrder (logGoes aisle ∷ [])
           ∷ commit 0 100 ⇒ answer 0 (1 ∷ [])
-          ∷ readName aisle ⇒ answer 0 (1 ∷ 7 ∷ [])
+          ∷ readName aisle ⇒ answer 0 (1 ∷ 7 ∷ 1 ∷ [])
           ∷ readLine aisle 0 ⇒ answer 22 []
           ∷ [];
     }
@@ -319,9 +319,9 @@ worked =
       made = chain ++ (loadLoose bay 1 5 ∷ []);
       lines =
           prepare (list (through (update HEAD (object 7)) ∷ [])) 1 ⇒ answer 0 (3 ∷ [])
-          ∷ readRow 0 ⇒ answer 0 (HEAD ∷ 1 ∷ 1 ∷ 0 ∷ 3 ∷ 3 ∷ 2 ∷ aisle ∷ 1 ∷ 7 ∷ 0 ∷ 0 ∷ 5 ∷ [])
-          ∷ readRow 1 ⇒ answer 0 (aisle ∷ 1 ∷ 1 ∷ 0 ∷ 3 ∷ 3 ∷ 2 ∷ bay ∷ 1 ∷ 7 ∷ 1 ∷ 0 ∷ 5 ∷ [])
-          ∷ readRow 2 ⇒ answer 0 (bay ∷ 1 ∷ 0 ∷ 0 ∷ 3 ∷ 3 ∷ 1 ∷ 5 ∷ 1 ∷ 7 ∷ 1 ∷ 1 ∷ 0 ∷ [])
+          ∷ readRow 0 ⇒ answer 0 (HEAD ∷ 1 ∷ 1 ∷ 0 ∷ 3 ∷ 3 ∷ 2 ∷ aisle ∷ 1 ∷ 7 ∷ 0 ∷ 0 ∷ 5 ∷ 1 ∷ [])
+          ∷ readRow 1 ⇒ answer 0 (aisle ∷ 1 ∷ 1 ∷ 0 ∷ 3 ∷ 3 ∷ 2 ∷ bay ∷ 1 ∷ 7 ∷ 1 ∷ 0 ∷ 5 ∷ 1 ∷ [])
+          ∷ readRow 2 ⇒ answer 0 (bay ∷ 1 ∷ 0 ∷ 0 ∷ 3 ∷ 3 ∷ 1 ∷ 5 ∷ 1 ∷ 7 ∷ 1 ∷ 1 ∷ 0 ∷ 1 ∷ [])
           ∷ inOrder (logMoves HEAD 5 7 ∷ logMoves aisle 5 7 ∷ logMoves bay 5 7 ∷ looseBecomes bay (the 7) ∷ [])
           ∷ [];
     }
