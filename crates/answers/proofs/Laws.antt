@@ -1,5 +1,5 @@
 -- What the places of a row are, and what the loop over places keeps. Assumes nothing.
-use mathlib.Core.Path.{_≡_, refl, sym, ap, _∙_}
+use mathlib.Core.Path.{_≡_, refl, sym, ap, ap₂, _∙_}
 use mathlib.Core.List.{List, [], _∷_, _++_, append-assoc, append-nil}
 use Prim.Native.Nat.{ℕ, _+_, _*_, _<_, _≤_}
 use native.Mathlib.Numerals.{add-one}
@@ -9,6 +9,8 @@ use lib.Seq.{take-at, take-suc, take-all, length-take-le}
 use Rattle.word.specs.Be.{be}
 use Rattle.word.specs.Cut.{put}
 use Rattle.word.proofs.Be.{length-be}
+use Rattle.target.specs.declared.Found.{Found}
+use Rattle.target.specs.Fields.{placeNumber}
 use Rattle.transaction.specs.declared.ParentIndex.{ParentIndex}
 use Rattle.transaction.specs.declared.ParentIndex.the-variants.{NoParent, Parent}
 use Rattle.transaction.specs.declared.Edit.{Edit}
@@ -25,20 +27,20 @@ parents : (p : ParentIndex) → parentPlaces p ≡ parentFlag p ∷ parentPlace 
 parents NoParent = refl
 parents (Parent j) = refl
 
--- thirteen of them, and three zeros
-sixteen : List ℕ → List ℕ
-sixteen p =
+-- thirteen of them, the place of the existing value, and two zeros
+sixteen : List ℕ → ℕ → List ℕ
+sixteen p k =
     getD p 0 0 ∷ getD p 1 0 ∷ getD p 2 0 ∷ getD p 3 0 ∷ getD p 4 0 ∷ getD p 5 0 ∷ getD p 6 0 ∷ getD p 7 0 ∷ getD p 8 0 ∷ getD p 9 0
-    ∷ getD p 10 0 ∷ getD p 11 0 ∷ getD p 12 0 ∷ 0 ∷ 0 ∷ 0 ∷ []
+    ∷ getD p 10 0 ∷ getD p 11 0 ∷ getD p 12 0 ∷ k ∷ 0 ∷ 0 ∷ []
 
-pub row-is : (r : Edit) (p : List ℕ) → p ≡ rowNumbers r
+pub row-is : (r : Edit) (x : Found) (p : List ℕ) (k : ℕ) → p ≡ rowNumbers r → k ≡ placeNumber x
     → getD p 0 0 ∷ getD p 1 0 ∷ getD p 2 0 ∷ getD p 3 0 ∷ getD p 4 0 ∷ getD p 5 0 ∷ getD p 6 0 ∷ getD p 7 0 ∷ getD p 8 0 ∷ getD p 9 0
-    ∷ getD p 10 0 ∷ getD p 11 0 ∷ getD p 12 0 ∷ 0 ∷ 0 ∷ 0 ∷ [] ≡ padded (rowPlaces r)
+    ∷ getD p 10 0 ∷ getD p 11 0 ∷ getD p 12 0 ∷ k ∷ 0 ∷ 0 ∷ [] ≡ padded (rowPlaces r ++ (placeNumber x ∷ []))
 unfolding sixteen
-row-is r p e = ap sixteen e ∙ simp (parents (r .«parent_index»))
+row-is r x p k e ek = ap₂ sixteen e ek ∙ simp (parents (r .«parent_index»))
 
-pub row-answer : (r : Edit) (ps : List ℕ) → ps ≡ padded (rowPlaces r) → answerBy (record { number = 0; places = ps }) ≡ answer 0 (rowPlaces r)
-row-answer r ps e = ap done e
+pub row-answer : (ps qs : List ℕ) → ps ≡ padded qs → answerBy (record { number = 0; places = ps }) ≡ answer 0 qs
+row-answer ps qs e = ap done e
   where
     done : List ℕ → Answer
     done ps = record { number = 0; places = ps }

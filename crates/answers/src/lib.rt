@@ -2,9 +2,11 @@
 ghost use mathlib.Core.Path.{_≡_};
 ghost use mathlib.Core.List.{[], _∷_, _++_};
 ghost use lib.ListN.{length};
+ghost use Rattle.target.specs.Fields.{placeNumber};
 ghost use Rattle.model.specs.Numbers.{answer, rowPlaces, targetPlaces, refusalAnswer};
 ghost use Rattle.answers.specs.Answers.{recordOf, padded, answerBy};
 use model::Refusal;
+use target::Found;
 use target::NameNumber;
 use target::OptionTarget;
 use target::Target;
@@ -116,6 +118,19 @@ impl Verdict {
         }
     }
 
+    pub fn three(number: u32, x: u64, y: u64, z: u64) -> Verdict
+        ensures { λ r. ⌜ answerBy r ≡ answer number (x ∷ y ∷ z ∷ []) ⌝ }
+    {
+        let mut places = [0u64; 16];
+        places[0] = x;
+        places[1] = y;
+        places[2] = z;
+        Verdict {
+            number: number,
+            places: places,
+        }
+    }
+
     pub fn four(number: u32, x: u64, y: u64, z: u64, w: u64) -> Verdict
         ensures { λ r. ⌜ answerBy r ≡ answer number (x ∷ y ∷ z ∷ w ∷ []) ⌝ }
     {
@@ -172,13 +187,13 @@ impl Verdict {
         }
     }
 
-    // What reading a row answers.
-    pub fn row(row: Edit) -> Verdict
-        ensures { λ r. ⌜ answerBy r ≡ answer 0 (rowPlaces row) ⌝ }
+    // What reading a row answers: its numbers, and where its existing value was found.
+    pub fn row(row: Edit, found: Found) -> Verdict
+        ensures { λ r. ⌜ answerBy r ≡ answer 0 (rowPlaces row ++ (placeNumber found ∷ [])) ⌝ }
     {
         Verdict {
             number: Answer::DONE,
-            places: row_places(row),
+            places: row_places(row, found),
         }
     }
 }
@@ -221,9 +236,9 @@ fn named_two(number: u32, name: NameNumber, t: Target, u: Target) -> Verdict
     }
 }
 
-// The places of a row: its numbers, as its slot has them, and zeros.
-fn row_places(row: Edit) -> [u64; 16]
-    ensures { λ r. ⌜ r ≡ padded (rowPlaces row) ⌝ }
+// The places of a row: its numbers, as its slot has them, the place of its existing value, and zeros.
+fn row_places(row: Edit, found: Found) -> [u64; 16]
+    ensures { λ r. ⌜ r ≡ padded (rowPlaces row ++ (placeNumber found ∷ [])) ⌝ }
 {
     let p = slots::row_numbers(row);
     [
@@ -240,7 +255,7 @@ fn row_places(row: Edit) -> [u64; 16]
         p[10],
         p[11],
         p[12],
-        0,
+        found.place(),
         0,
         0,
     ]

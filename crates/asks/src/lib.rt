@@ -45,7 +45,7 @@ impl Call {
 }
 
 // The numbers of one call: which it is, its own three, what it is to return, and which places of its record are judged: as many as
-// are said, from a place of the notes on, with zeros behind them. Two of them can stand here.
+// are said, from a place of the notes on, with zeros behind them. Three of them can stand here.
 struct Part {}
 
 impl Part {
@@ -60,6 +60,8 @@ impl Part {
     const FIRST: usize = 7;
 
     const SECOND: usize = 8;
+
+    const THIRD: usize = 9;
 
     // What it returns is not judged here; nor are its places.
     const ANY: u64 = 1000;
@@ -119,17 +121,18 @@ pub fn gives_fields(notes: &mut Notes, first: u64, many: u64) {
     }
 }
 
-// Its record has these two numbers.
-pub fn gives(notes: &mut Notes, first: u64, second: u64) {
+// Its record has these three numbers.
+pub fn gives(notes: &mut Notes, first: u64, second: u64, third: u64) {
     let ask = last(notes);
     notes::set_of_ask(notes, ask, Part::FIRST, first);
     notes::set_of_ask(notes, ask, Part::SECOND, second);
+    notes::set_of_ask(notes, ask, Part::THIRD, third);
     if ask < 1100 {
         put_places(
             notes,
             ask,
-            Note::QUEUE as u64 + 9 * ask + Part::FIRST as u64,
-            2,
+            Note::QUEUE as u64 + 10 * ask + Part::FIRST as u64,
+            3,
         );
     }
 }
@@ -138,7 +141,7 @@ pub fn gives(notes: &mut Notes, first: u64, second: u64) {
 
 fn at(notes: &Notes, from: u64, i: u64) -> u64 {
     let place = std::num::wrapping_add_u64(from, i);
-    if place < 11599 {
+    if place < 12699 {
         notes[place as usize]
     } else {
         0

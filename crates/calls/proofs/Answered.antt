@@ -1,12 +1,12 @@
 -- What a read of a name answers in a region that holds a store: the value that the model reads, and no other. Assumes nothing.
 use mathlib.Core.Path.{_≡_, refl, sym, ap, ap₂, _∙_}
 use mathlib.Core.Bool.{Bool, true, false, cond}
-use mathlib.Core.List.{List, _++_}
+use mathlib.Core.List.{List, [], _++_, append-assoc, append-nil}
 use mathlib.Core.Option.{some}
 use Prim.Native.Nat.{ℕ, zero, suc, _≤_, _<_, _^_}
 use native.Mathlib.Nat.{le-trans}
 use native.Mathlib.Omega.{arith}
-use lib.ListN.{length, take, drop, replicate}
+use lib.ListN.{length, take, drop, replicate, length-append}
 use lib.Seq.{take-at, drop-at}
 use lib.Dec.{ltb, lit<, lit≤}
 use borrow.Author.Tests.{lt-ltb, le-ltb, ltb-true, ltb-false}
@@ -16,15 +16,13 @@ use Rattle.target.specs.declared.NameNumber.{NameNumber}
 use Rattle.target.specs.declared.Target.the-variants.{Object, Symbolic}
 use Rattle.target.specs.declared.OptionTarget.{OptionTarget}
 use Rattle.target.specs.declared.OptionTarget.the-variants.{Absent, Present}
+use Rattle.target.specs.declared.Found.{Found}
+use Rattle.target.specs.Found.{valueIn}
 use Rattle.target.specs.Fields.{targetByte, targetNumber}
 use Rattle.transaction.specs.Change.{newValue, isLogOnly}
-use Rattle.model.specs.declared.Loose.{Loose}
-use Rattle.model.specs.declared.Loose.the-variants as loose
-use Rattle.model.specs.declared.Packed.{Packed}
-use Rattle.model.specs.declared.Packed.the-variants as packed
 use Rattle.model.specs.declared.Refusal.the-variants.{NotRegistered}
 use Rattle.model.specs.Store.{Store, count, entryOf}
-use Rattle.model.specs.Read.{packedValue, looseOr, reading}
+use Rattle.model.specs.Read.{foundOf, reading}
 use Rattle.model.specs.Rows.{nameIn, changeIn, rowAt}
 use Rattle.model.specs.Fine.{Fine}
 use Rattle.model.specs.Reply.{Reply}
@@ -32,17 +30,15 @@ use Rattle.model.specs.Reply.Call.{readName}
 use Rattle.model.specs.Reply.Reply.{done, refused}
 use Rattle.model.specs.Reply.Given.{value}
 use Rattle.model.specs.Calls.{step, nameRead}
-use Rattle.model.specs.Numbers.{optionPlaces, answerOf, refusalAnswer}
+use Rattle.model.specs.Numbers.{foundPlaces, answerOf, refusalAnswer}
 use Rattle.model.specs.Demand3.{rows, old, new}
-use Rattle.model.proofs.RowFacts.{held}
-use Rattle.slots.specs.Values.{FitsLoose, FitsPacked}
 use Rattle.slots.specs.Row.{FitsOption}
 use Rattle.region.specs.Region.{decode, view, image, nameOffset}
-use Rattle.region.proofs.Fits.{fine-fits}
+use Rattle.region.proofs.Fits.{fine-fits, reads-fit}
 use Rattle.region.proofs.Decode.{decoded}
 use Rattle.answers.specs.Answers.{recordOf}
 use Rattle.calls.specs.Call.{Out, outOf, regionAfter, call, Did}
-use Rattle.calls.specs.Demand3.{filled, Reads}
+use Rattle.calls.specs.Demand3.{filled, valueBytes, Reads}
 use Rattle.calls.proofs.Exports.{only, does-step}
 
 -- ---- two values that a record can hold are one where their records are one
@@ -82,32 +78,39 @@ number-fits Absent f = lit< tt
 number-fits (Present (Object o)) f = f .1
 number-fits (Present (Symbolic n)) f = le-trans f (lit≤ tt)
 
-one-value : (t u : OptionTarget) → FitsOption t → FitsOption u → filled (optionPlaces t) ≡ filled (optionPlaces u) → t ≡ u
+one-value : (t u : OptionTarget) → FitsOption t → FitsOption u → valueBytes t ≡ valueBytes u → t ≡ u
 unfolding recordOf
 one-value t u f g e =
     let p = one-place (targetByte t) (targetByte u) _ _ (kind-fits t) (kind-fits u) e in
     let q = one-place (targetNumber t) (targetNumber u) _ _ (number-fits t f) (number-fits u g) (p .1) in
     sym (places-back t) ∙ ap₂ by-places (p .0) (q .0) ∙ places-back u
 
+-- the value stands first in what reading a name answers
+two-places : (a b : ℕ) (rest : List ℕ) → take 16 (be 8 a ++ (be 8 b ++ rest)) ≡ be 8 a ++ (be 8 b ++ [])
+two-places a b rest =
+    let m : length (be 8 a) ≡ 8 = length-be 8 a in
+    let n : length (be 8 b) ≡ 8 = length-be 8 b in
+    let l : length (be 8 a ++ be 8 b) ≡ 16 = rw length-append (omega arith) in
+    ap (take 16) (sym (append-assoc (be 8 a) (be 8 b) rest))
+    ∙ take-at (be 8 a ++ be 8 b) rest 16 l
+    ∙ ap (λ (ys : List ℕ). be 8 a ++ ys) (sym (append-nil (be 8 b)))
+
+value-first : (x : Found) → take 16 (filled (foundPlaces x)) ≡ valueBytes (valueIn x)
+unfolding recordOf
+value-first x = two-places (targetByte (valueIn x)) (targetNumber (valueIn x)) _
+
 -- ---- a record can hold what a name reads in a store that obeys the rules, and what a row sets
 
-value-fits : (v : Loose) (p : Packed) → FitsLoose v → FitsPacked p → FitsOption (looseOr v (packedValue true p))
-value-fits loose.None packed.None f g = tt
-value-fits loose.None (packed.Object o) f g = g
-value-fits (loose.Target t) p f g = f
-value-fits loose.Broken packed.None f g = tt
-value-fits loose.Broken (packed.Object o) f g = g
-
 module _ (s : Store) (f : Fine s) where
-  reading-fits : (n : NameNumber) → n .0 < count s → FitsOption (reading s n)
+  reading-fits : (n : NameNumber) → FitsOption (reading s n)
   unfolding reading
-  reading-fits n h = let e = fine-fits s f .entry (n .0) h in value-fits (entryOf s n .loose) (entryOf s n .packed) (e .1) (e .2)
+  reading-fits n = reads-fit s (fine-fits s f) true n
 
   pub new-fits : (i : ℕ) → i < length (rows s) → FitsOption (new s (rowAt (rows s) i))
   new-fits i h = go (isLogOnly (changeIn (rowAt (rows s) i)))
     where
       go : (b : Bool) → FitsOption (cond b (old s (rowAt (rows s) i)) (newValue (changeIn (rowAt (rows s) i))))
-      go true = reading-fits (nameIn (rowAt (rows s) i)) (held s f i h)
+      go true = reading-fits (nameIn (rowAt (rows s) i))
       go false = fine-fits s f .row i h .new
 
 -- ---- what a read answers
@@ -115,17 +118,17 @@ module _ (s : Store) (f : Fine s) where
 module _ (r : List ℕ) (d : decode r ≡ some (view r)) (n : NameNumber) where
   -- a registered name's value, and the region as it is
   module _ (h : n .0 < count (view r)) where
-    near : (lent : List ℕ) → length lent ≡ 128 → call (readName (n .0)) r lent ≡ outOf (done (view r) (value (reading (view r) n))) r
+    near : (lent : List ℕ) → length lent ≡ 128 → call (readName (n .0)) r lent ≡ outOf (done (view r) (value (foundOf true (entryOf (view r) n)))) r
     unfolding step nameRead
     near lent sized = does-step (readName (n .0)) r lent (view r) d sized ∙ rw (lt-ltb (n .0) (count (view r)) h)
 
-    pub reads-to : (t : OptionTarget) → filled (optionPlaces (reading (view r) n)) ≡ filled (optionPlaces t) → Reads (n .0) r t
-    unfolding outOf answerOf
+    pub reads-to : (t : OptionTarget) → valueBytes (reading (view r) n) ≡ valueBytes t → Reads (n .0) r t
+    unfolding outOf answerOf reading
     reads-to t e =
         record {
           read = λ lent m a r′ sized did. (
             did .code ∙ ap (λ (o : Out). o .code) (near lent sized),
-            did .answer ∙ ap (λ (o : Out). o .answer) (near lent sized) ∙ e,
+            ap (take 16) (did .answer ∙ ap (λ (o : Out). o .answer) (near lent sized)) ∙ value-first (foundOf true (entryOf (view r) n)) ∙ e,
             only r′ (image (view r)) (did .lent ∙ ap (λ (o : Out). o .lent) (near lent sized)) ∙ decoded r (view r) d .1,
           );
         }
@@ -137,8 +140,8 @@ module _ (r : List ℕ) (d : decode r ≡ some (view r)) (n : NameNumber) where
 
   -- so a name with an answer is registered, and has its value for its answer
   pub reads-of : (t : OptionTarget) → Reads (n .0) r t
-      → (n .0 < count (view r)) × (filled (optionPlaces (reading (view r) n)) ≡ filled (optionPlaces t))
-  unfolding outOf answerOf refusalAnswer
+      → (n .0 < count (view r)) × (valueBytes (reading (view r) n) ≡ valueBytes t)
+  unfolding outOf answerOf refusalAnswer reading
   reads-of t reads = go (ltb (n .0) (count (view r))) refl
     where
       zeros : List ℕ
@@ -146,17 +149,18 @@ module _ (r : List ℕ) (d : decode r ≡ some (view r)) (n : NameNumber) where
 
       -- whatever the read comes to, this is what it answers
       told : (reply : Reply) → call (readName (n .0)) r zeros ≡ outOf reply r
-          → (answerOf nameOffset reply .number ≡ 0) × (recordOf (answerOf nameOffset reply .places) ≡ filled (optionPlaces t))
+          → (answerOf nameOffset reply .number ≡ 0) × (take 16 (recordOf (answerOf nameOffset reply .places)) ≡ valueBytes t)
       told reply o =
           let did : Did (call (readName (n .0)) r zeros) (outOf reply r .code) (outOf reply r .answer) (outOf reply r .lent) =
           rw o (record { code = refl; answer = refl; lent = refl }) in
           let x = reads .read zeros (outOf reply r .code) (outOf reply r .answer) (regionAfter reply r) refl did in (x .0, x .1)
 
       go : (b : Bool) → ltb (n .0) (count (view r)) ≡ b
-          → (n .0 < count (view r)) × (filled (optionPlaces (reading (view r) n)) ≡ filled (optionPlaces t))
+          → (n .0 < count (view r)) × (valueBytes (reading (view r) n) ≡ valueBytes t)
       go true p =
           let h : n .0 < count (view r) = ltb-true (n .0) (count (view r)) p in
-          (h, told (done (view r) (value (reading (view r) n))) (near h zeros refl) .1)
+          let x : Found = foundOf true (entryOf (view r) n) in
+          (h, sym (value-first x) ∙ told (done (view r) (value x)) (near h zeros refl) .1)
       go false p =
           let z : _≡_ {A = ℕ} 3 0 = told (refused (NotRegistered (n .0))) (far (ltb-false (n .0) (count (view r)) p) zeros refl) .0 in
           absurd (omega arith)
@@ -165,4 +169,4 @@ module _ (r : List ℕ) (d : decode r ≡ some (view r)) (n : NameNumber) where
 pub reads-as : (r : List ℕ) → decode r ≡ some (view r) → (n : NameNumber) (t : OptionTarget) → FitsOption t → Reads (n .0) r t
     → reading (view r) n ≡ t
 reads-as r d n t f reads =
-    let x = reads-of r d n t reads in one-value (reading (view r) n) t (reading-fits (view r) (decoded r (view r) d .0) n (x .0)) f (x .1)
+    let x = reads-of r d n t reads in one-value (reading (view r) n) t (reading-fits (view r) (decoded r (view r) d .0) n) f (x .1)

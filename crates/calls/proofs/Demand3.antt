@@ -5,7 +5,6 @@ use mathlib.Core.Bool.{true}
 use mathlib.Core.Logic.{⊎-elim, inl, inr}
 use Prim.Native.Nat.{ℕ, _<_}
 use lib.ListN.{length, take}
-use Rattle.target.specs.declared.OptionTarget.{OptionTarget}
 use Rattle.model.specs.declared.Lock.the-variants.{Foreign, Ours}
 use Rattle.model.specs.Store.{Store, entryAt, linesOf, isLock, isPrepared}
 use Rattle.model.specs.Read.{reading}
@@ -17,13 +16,12 @@ use Rattle.model.specs.Reply.Reply.{stopped}
 use Rattle.model.specs.Reply.Call.{commit}
 use Rattle.model.specs.Calls.{step}
 use Rattle.model.specs.Reached.{Reached, leaves}
-use Rattle.model.specs.Numbers.{optionPlaces}
 use Rattle.model.specs.Demand3.{refs, reported, by, beforeLine, old}
 use Rattle.model.proofs.RowFacts.{held}
 use Rattle.model.proofs.Demand3 as model
 use Rattle.region.specs.Region.{view}
 use Rattle.calls.specs.Call.{outOf}
-use Rattle.calls.specs.Demand3.{filled, preparedRow, RegionA, RegionB, RegionOld, RegionC₁, RegionC₂, RegionD, RegionE, RegionF₁, RegionF₂}
+use Rattle.calls.specs.Demand3.{valueBytes, preparedRow, RegionA, RegionB, RegionOld, RegionC₁, RegionC₂, RegionD, RegionE, RegionF₁, RegionF₂}
 use Rattle.calls.proofs.Answered.{new-fits, reads-to, reads-of}
 use Rattle.calls.proofs.Ended.{numbered, reports, done-by, unsigned-by}
 use Rattle.calls.proofs.Stopped.{before, after, ruled, answered, left-by, stop-reads, row-reads, row-reading}
@@ -53,7 +51,7 @@ pub region-b : RegionB
 region-b c k r n a r′ x m outside t reads =
     let o = reads-of r (before x .0) m t reads in
     stop-reads x m (o .0) t
-    (ap (λ (v : OptionTarget). filled (optionPlaces v)) (model.b (view r) (before x .1) (x .prepared) c k m outside) ∙ o .1)
+    (ap valueBytes (model.b (view r) (before x .1) (x .prepared) c k m outside) ∙ o .1)
 
 -- c: old before, then old or new, and never back
 pub region-old : RegionOld

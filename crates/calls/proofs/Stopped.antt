@@ -13,7 +13,6 @@ use Rattle.model.specs.Fine.{Fine}
 use Rattle.model.specs.Reply.Call.{commit}
 use Rattle.model.specs.Calls.{step}
 use Rattle.model.specs.Reached.{Reached}
-use Rattle.model.specs.Numbers.{optionPlaces}
 use Rattle.model.specs.Demand3.{stopAt}
 use Rattle.model.proofs.Kept.{kept, reached-sound}
 use Rattle.model.proofs.RowFacts.{held}
@@ -25,7 +24,7 @@ use Rattle.region.proofs.Decode.{decoded}
 use Rattle.calls.specs.Call.{Out, outOf, Did}
 use Rattle.calls.specs.Exports.{Got}
 use Rattle.calls.specs.Exports.Got.{after as got·after}
-use Rattle.calls.specs.Demand3.{Committed, Reads, filled, preparedRows, preparedRow}
+use Rattle.calls.specs.Demand3.{Committed, Reads, valueBytes, preparedRows, preparedRow}
 use Rattle.calls.proofs.Exports.{got-reached, does-step, step-image}
 use Rattle.calls.proofs.Answered.{reads-to, reads-as}
 use Rattle.calls.proofs.Ended.{stop-count}
@@ -62,16 +61,16 @@ module _ {c k : ℕ} {r : List ℕ} {n : ℕ} {a r′ : List ℕ} (x : Committed
 
   -- so a name reads as it does there
   pub stop-reads : (m : NameNumber) → m .0 < count (view r) → (t : OptionTarget)
-      → filled (optionPlaces (reading (stopAt c k (view r)) m)) ≡ filled (optionPlaces t) → Reads (m .0) r′ t
+      → valueBytes (reading (stopAt c k (view r)) m) ≡ valueBytes t → Reads (m .0) r′ t
   stop-reads m h t e =
       reads-to r′ (after .0) m (rw (left-by, stop-count (view r) (x .prepared) c k) h) t
-      (ap (λ (s : Store). filled (optionPlaces (reading s m))) left-by ∙ e)
+      (ap (λ (s : Store). valueBytes (reading s m)) left-by ∙ e)
 
   -- and so does a row's name
   pub row-reads : {t : OptionTarget} (i : ℕ) → i < length (preparedRows r) → reading (stopAt c k (view r)) (nameIn (preparedRow r i)) ≡ t
       → Reads (nameIn (preparedRow r i) .0) r′ t
   row-reads {t} i h e =
-      stop-reads (nameIn (preparedRow r i)) (held (view r) ruled i h) t (ap (λ (v : OptionTarget). filled (optionPlaces v)) e)
+      stop-reads (nameIn (preparedRow r i)) (held (view r) ruled i h) t (ap valueBytes e)
 
   pub row-reading : {t : OptionTarget} (i : ℕ) → FitsOption t → Reads (nameIn (preparedRow r i) .0) r′ t
       → reading (stopAt c k (view r)) (nameIn (preparedRow r i)) ≡ t

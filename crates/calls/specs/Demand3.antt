@@ -41,10 +41,14 @@ pub record Committed (c k : ℕ) (r : List ℕ) (n : ℕ) (a r′ : List ℕ) : 
 abbrev pub filled : List ℕ → List ℕ
 filled places = recordOf (answer 0 places .places)
 
--- what a read of name n in the region r answers
+-- the bytes of a value in a record: its two places
+abbrev pub valueBytes : OptionTarget → List ℕ
+valueBytes t = recordOf (optionPlaces t)
+
+-- a read of name n in the region r answers the value t, which is the first two places; where it was found stands behind them
 pub record Reads (n : ℕ) (r : List ℕ) (t : OptionTarget) : Type 0 where
   pub read : (lent : List ℕ) (m : ℕ) (a r′ : List ℕ) → length lent ≡ 128 → Did (call (readName n) r lent) m a (r′ ∷ [])
-      → (m ≡ 0) × (a ≡ filled (optionPlaces t)) × (r′ ≡ r)
+      → (m ≡ 0) × (take 16 a ≡ valueBytes t) × (r′ ≡ r)
 
 -- the rows of a region, and one of them
 abbrev pub preparedRows : List ℕ → List Edit

@@ -18,6 +18,8 @@ pub struct At {}
 impl At {
     pub const LINE_COUNT: usize = 8;
 
+    pub const PACKED_LOCK: usize = 12;
+
     pub const LOOSES: usize = 16653;
 
     pub const LOOSE_WIDTH: usize = 9;

@@ -3,6 +3,7 @@ ghost use Prim.Native.Nat.{_<_};
 ghost use Rattle.model.specs.Store.{count};
 ghost use Rattle.region.specs.Region.{view, Laid};
 use model::Packed;
+use target::Found;
 use target::NameNumber;
 
 // The bytes of a name; of a number that is not registered the number.
@@ -39,6 +40,24 @@ pub fn target(region: &[u8], kind: u64, number: u64)
 
 // ---- values
 
+// The place where a value is found, by its number.
+pub fn place(number: u64) {
+    say::choice(
+        b"|loose|packed|packed behind a broken loose|absent|absent behind a broken loose",
+        number,
+    );
+}
+
+// The value, unless it is absent, and where it is found.
+fn reading(region: &[u8], found: Found)
+    requires { ⌜ Laid (now region) ⌝ }
+{
+    let value = found.value();
+    target(region, value.byte(), value.number());
+    say::choice(b"|, |, ", value.byte());
+    place(found.place());
+}
+
 // The object of a packed value; 0 is none.
 fn object_of(v: Packed) -> u64 {
     match v {
@@ -47,50 +66,21 @@ fn object_of(v: Packed) -> u64 {
     }
 }
 
-// What a name without a loose target reads.
-fn underneath(under: u64) {
-    if under == 0 {
-        say::text(b"absent");
-        return;
-    }
-    say::number(b"object ", under);
-    say::text(b", packed");
-}
-
 // A packed value that a loose one hides.
-fn hidden(under: u64) {
-    if under > 0 {
+fn hidden(place: u64, under: u64) {
+    if place == Found::LOOSE && under > 0 {
         say::number(b" (over packed ", under);
         say::text(b")");
     }
-}
-
-// Kinds 1 and 2 are targets; 3 is broken.
-fn value_by(region: &[u8], kind: u64, number: u64, under: u64)
-    requires { ⌜ Laid (now region) ⌝ }
-{
-    if kind % 3 == 0 {
-        underneath(under);
-    } else {
-        target(region, kind, number);
-        say::text(b", loose");
-        hidden(under);
-    }
-    say::choice(b"|||, loose file broken", kind);
 }
 
 fn value(region: &[u8], n: NameNumber)
     requires { ⌜ Laid (now region) ⌝ }
     requires { ⌜ n .0 < count (view (now region)) ⌝ }
 {
-    let under = object_of(region::packed_at(region, n));
-    let loose = region::loose_at(region, n);
-    value_by(
-        region,
-        slots::loose_kind(loose),
-        slots::loose_number(loose),
-        under,
-    );
+    let found = steps::found_of(region, true, n);
+    reading(region, found);
+    hidden(found.place(), object_of(region::packed_at(region, n)));
 }
 
 // ---- one name, and all of them

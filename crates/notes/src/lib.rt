@@ -1,5 +1,5 @@
 // What is kept from line to line: numbers, each at its place.
-pub type Notes = [u64; 11599];
+pub type Notes = [u64; 12699];
 
 pub struct Note {}
 
@@ -79,7 +79,7 @@ impl Note {
     // The fields of each edit, for one edit more than a list may have.
     pub const LIST: usize = 1336;
 
-    // The calls that are to be made: nine numbers for each of 1,100.
+    // The calls that are to be made: ten numbers for each of 1,100.
     pub const QUEUE: usize = 1699;
 }
 
@@ -158,8 +158,8 @@ pub fn put_edit(notes: &mut Notes, edit: u64) {
 // A number of a call that is to be made; 0 where there is none.
 pub fn of_ask(notes: &Notes, ask: u64, i: usize) -> u64 {
     if ask < 1100 {
-        if i < 9 {
-            return notes[Note::QUEUE + 9 * ask as usize + i];
+        if i < 10 {
+            return notes[Note::QUEUE + 10 * ask as usize + i];
         }
     }
     0
@@ -167,8 +167,8 @@ pub fn of_ask(notes: &Notes, ask: u64, i: usize) -> u64 {
 
 pub fn set_of_ask(notes: &mut Notes, ask: u64, i: usize, x: u64) {
     if ask < 1100 {
-        if i < 9 {
-            notes[Note::QUEUE + 9 * ask as usize + i] = x;
+        if i < 10 {
+            notes[Note::QUEUE + 10 * ask as usize + i] = x;
         }
     }
 }

@@ -72,6 +72,12 @@ fn expected(region: &[u8], row: &Row)
     entries::target(region, row[At::EXPECTED_KIND], row[At::EXPECTED_NUMBER]);
 }
 
+// Where prepare found the value that was there.
+fn found(place: u64) {
+    say::text(b", found ");
+    entries::place(place);
+}
+
 fn origin(row: &Row) {
     if row[At::HAS_PARENT] == 1 {
         say::number(b", child of row ", row[At::PARENT]);
@@ -89,16 +95,17 @@ fn lock(kept: bool) {
     }
 }
 
-fn parts(region: &[u8], name: NameNumber, row: &Row, kept: bool)
+fn parts(region: &[u8], name: NameNumber, row: &Row, place: u64, kept: bool)
     requires { ⌜ Laid (now region) ⌝ }
 {
     change(region, name, row);
     expected(region, row);
+    found(place);
     origin(row);
     lock(kept);
 }
 
-fn row(region: &[u8], i: usize)
+fn row(region: &[u8], opened: bool, i: usize)
     requires { ⌜ Laid (now region) ⌝ }
     requires { ⌜ i < length (rowsIn (view (now region) .prepared)) ⌝ }
 {
@@ -106,7 +113,9 @@ fn row(region: &[u8], i: usize)
     let row = region::row_at(region, i);
     let kept = rows::keeps_lock(region, region::mode(region), row);
     let numbers = slots::row_numbers(row);
-    parts(region, region::row_name(region, i), &numbers, kept);
+    let name = region::row_name(region, i);
+    let found = steps::found_of(region, opened, name);
+    parts(region, name, &numbers, found.place(), kept);
 }
 
 // ---- all of them
@@ -114,10 +123,11 @@ fn row(region: &[u8], i: usize)
 fn rows_of(region: &[u8])
     requires { ⌜ Laid (now region) ⌝ }
 {
+    let opened = kept::opens_table(region);
     let rows = region::count_rows(region);
     let mut i: usize = 0;
     while i < rows {
-        row(region, i);
+        row(region, opened, i);
         i += 1;
     }
 }

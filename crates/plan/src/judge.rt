@@ -1,5 +1,6 @@
 // What the calls left, against what is recorded.
 use asks::Call;
+use lent::At;
 use lent::Region;
 use notes::Note;
 use notes::Notes;
@@ -14,11 +15,19 @@ const NOT_PREPARED: u64 = 15;
 
 // ---- rows
 
-// The next row has the line's fields.
-pub fn row(notes: &mut Notes) {
+// The packed table was opened where its lock is ours. Whether that is as it is to be, is judged with the other locks.
+fn is_opened(region: &Region) -> bool {
+    lent::number_at(region, At::PACKED_LOCK, 1) == 2
+}
+
+// The next row has the line's fields, and behind them the place where prepare found the value that was there.
+pub fn row(region: &Region, notes: &mut Notes) {
     let place = notes[Note::ROWS];
+    let name = notes::field(notes, 0);
+    let found = told::place_read(notes, name, is_opened(region));
+    notes::set_field(notes, 13, found);
     asks::ask(notes, Call::READ_ROW, place, 0, 0, 0);
-    asks::gives_fields(notes, 0, 13);
+    asks::gives_fields(notes, 0, 14);
     notes::count(notes, Note::ROWS);
 }
 
@@ -63,8 +72,9 @@ fn packed_lock(notes: &mut Notes) {
 fn read(name: u64, notes: &mut Notes) {
     let kind = told::kind_read(notes, name);
     let number = told::number_read(notes, name);
+    let place = told::place_read(notes, name, true);
     asks::ask(notes, Call::READ_NAME, name, 0, 0, 0);
-    asks::gives(notes, kind, number);
+    asks::gives(notes, kind, number, place);
 }
 
 // Every name reads what it is to read, and every lock is free, foreign or ours, as it is to be.

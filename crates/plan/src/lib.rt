@@ -28,11 +28,11 @@ fn before_line(word: u64, notes: &mut Notes) {
 }
 
 // Prepare, and what it left.
-fn prepared_line(word: u64, notes: &mut Notes) {
+fn prepared_line(word: u64, region: &Region, notes: &mut Notes) {
     match word {
         Word::PREPARE => setup::prepare(notes),
         Word::ANSWER => told::prepared(notes),
-        Word::ROW => judge::row(notes),
+        Word::ROW => judge::row(region, notes),
         Word::OURS => told::lock(notes, 2),
         _ => told::lock_packed(notes, 2),
     }
@@ -57,7 +57,7 @@ fn follow(word: u64, region: &Region, notes: &mut Notes) {
     if place < Word::PREPARE {
         before_line(word, notes);
     } else if place < Word::COMMIT {
-        prepared_line(word, notes);
+        prepared_line(word, region, notes);
     } else {
         after_line(word, region, notes);
     }

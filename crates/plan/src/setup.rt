@@ -13,7 +13,7 @@ fn name_stands(name: u64, to: u64, notes: &mut Notes) {
     if name < 256 {
         let at = 14 + 65 * name;
         asks::ask(notes, Call::NAME_BYTES, name, 0, 0, 0);
-        asks::gives(notes, at, std::num::wrapping_sub_u64(to, 5));
+        asks::gives(notes, at, std::num::wrapping_sub_u64(to, 5), 0);
         notes[Note::THEN] = 1;
     }
 }
@@ -23,7 +23,7 @@ pub fn name(notes: &mut Notes) {
     let next = notes[Note::NAMES];
     let to = notes[Note::LENGTH];
     asks::ask(notes, Call::ADD_NAME, 5, to, 0, 0);
-    asks::gives(notes, next, 0);
+    asks::gives(notes, next, 0, 0);
     name_stands(next, to, notes);
     notes::count(notes, Note::NAMES);
 }
@@ -90,6 +90,6 @@ pub fn line(notes: &mut Notes) {
     told::edit_of_line(notes);
     asks::ask(notes, Call::PREPARE, 1, 1, 0, 0);
     asks::ask(notes, Call::COMMIT, committer, 1000, 0, 0);
-    asks::gives(notes, 1, 0);
+    asks::gives(notes, 1, 0, 0);
     load_before(name, 0, notes);
 }

@@ -11,7 +11,7 @@ pub const STAGES: u64 = 1310;
 // A call, the number that it is to return, and place 0 of its record. The other places are 0.
 fn is(notes: &mut Notes, call: u64, a: u64, b: u64, c: u64, returns: u64, place: u64) {
     asks::ask(notes, call, a, b, c, returns);
-    asks::gives(notes, place, 0);
+    asks::gives(notes, place, 0, 0);
 }
 
 // ---- names

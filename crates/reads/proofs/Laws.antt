@@ -1,7 +1,7 @@
 -- Reads: what each way out answers. Assumes nothing.
-use mathlib.Core.Path.{_≡_, refl, sym, ap, ap₂, _∙_}
+use mathlib.Core.Path.{_≡_, refl, sym, ap, _∙_}
 use mathlib.Core.Bool.{Bool, true, false, not, cond}
-use mathlib.Core.List.{List, [], _∷_}
+use mathlib.Core.List.{List, [], _∷_, _++_}
 use mathlib.Core.Option.{none, some}
 use Prim.Native.Nat.{ℕ, _<_, _≤_}
 use native.Mathlib.Omega.{arith}
@@ -12,20 +12,22 @@ use Rattle.target.specs.declared.NameNumber.{NameNumber}
 use Rattle.target.specs.declared.OptionName.{OptionName}
 use Rattle.target.specs.declared.OptionName.the-variants.{NoName, Name}
 use Rattle.target.specs.declared.OptionTarget.{OptionTarget}
-use Rattle.target.specs.Fields.{nameBelow, targetByte, targetNumber}
+use Rattle.target.specs.declared.Found.{Found}
+use Rattle.target.specs.Found.{valueIn}
+use Rattle.target.specs.Fields.{nameBelow, targetByte, targetNumber, placeNumber}
 use Rattle.transaction.specs.declared.Edit.{Edit}
 use Rattle.model.specs.declared.Line.{Line}
 use Rattle.model.specs.declared.OptionLine.{OptionLine}
 use Rattle.model.specs.declared.OptionLine.the-variants as optionLine
 use Rattle.model.specs.declared.Refusal.the-variants.{NotRegistered, NothingThere}
-use Rattle.model.specs.Store.{count, entryOf, linesOf, rowsIn, noLine}
-use Rattle.model.specs.Read.{valueOf, reading}
-use Rattle.model.specs.Rows.{rowAt}
+use Rattle.model.specs.Store.{count, entryOf, linesOf, rowsIn, modeIn, noLine}
+use Rattle.model.specs.Read.{foundOf}
+use Rattle.model.specs.Rows.{rowAt, opens}
 use Rattle.model.specs.Reply.Reply.{done}
-use Rattle.model.specs.Numbers.{answer, optionPlaces, rowPlaces, refusalAnswer}
+use Rattle.model.specs.Numbers.{answer, foundPlaces, rowPlaces, refusalAnswer}
 use Rattle.model.specs.Reply.Call.{readName, readLine, readRow}
 use Rattle.model.specs.Reply.Given.{value, line, row}
-use Rattle.model.specs.Calls.{step, nameRead, lineRead, rowRead}
+use Rattle.model.specs.Calls.{step, nameRead, lineRead, rowFound, rowRead}
 use Rattle.region.specs.Region.{view, good}
 use Rattle.steps.specs.Steps.{lineOption, lineAmong}
 use Rattle.answers.specs.declared.Verdict.{Verdict}
@@ -64,13 +66,14 @@ module _ (r : List ℕ) (ok : Bool) (is : ok ≡ good r) (y : not ok ≡ false) 
       as-named : m ≡ record { 0 = n }
       as-named = known-as n (view r) o e m h
 
-      pub name-done : (v : OptionTarget) (b k : ℕ) → v ≡ valueOf true (entryOf (view r) m) → b ≡ targetByte v → k ≡ targetNumber v
-          → answerBy x ≡ answer 0 (b ∷ k ∷ []) → Replied x r r (replyTo (readName n) r)
-      unfolding step nameRead reading
-      name-done v b k ev eb ek a =
-          let is-read : v ≡ reading (view r) (record { 0 = n }) = ev ∙ ap (λ (m : NameNumber). valueOf true (entryOf (view r) m)) as-named in
-          says-read (readName n) r ok is refl y x (value (reading (view r) (record { 0 = n }))) (rw (known-near n (view r) o e m h))
-          (a ∙ ap₂ (λ (b k : ℕ). answer 0 (b ∷ k ∷ [])) eb ek ∙ ap (λ (v : OptionTarget). answer 0 (optionPlaces v)) is-read)
+      pub name-done : (f : Found) (v : OptionTarget) (b k p : ℕ) → f ≡ foundOf true (entryOf (view r) m) → v ≡ valueIn f
+          → b ≡ targetByte v → k ≡ targetNumber v → p ≡ placeNumber f
+          → answerBy x ≡ answer 0 (b ∷ k ∷ p ∷ []) → Replied x r r (replyTo (readName n) r)
+      unfolding step nameRead
+      name-done f v b k p ef ev eb ek ep a =
+          let is-read : f ≡ foundOf true (entryOf (view r) (record { 0 = n })) = ef ∙ ap (λ (m : NameNumber). foundOf true (entryOf (view r) m)) as-named in
+          says-read (readName n) r ok is refl y x (value (foundOf true (entryOf (view r) (record { 0 = n })))) (rw (known-near n (view r) o e m h))
+          (a ∙ rw (eb, ek, ep, ev) refl ∙ ap (λ (f : Found). answer 0 (foundPlaces f)) is-read)
 
       module _ (place : ℕ) (l : OptionLine) (el : lineOption l ≡ lineAmong place (linesOf (view r) m)) where
         among : lineOption l ≡ lineAmong place (linesOf (view r) (record { 0 = n }))
@@ -100,12 +103,15 @@ module _ (r : List ℕ) (ok : Bool) (is : ok ≡ good r) (y : not ok ≡ false) 
         let b : length (rowsIn (view r .prepared)) ≤ place = rw e at l in
         says-no (readRow place) r ok is refl y NothingThere x a (rw (le-leb _ _ b))
 
-    pub row-done : place < k → (t : Edit) → t ≡ rowAt (rowsIn (view r .prepared)) place → answerBy x ≡ answer 0 (rowPlaces t) → Replied x r r (replyTo (readRow place) r)
-    unfolding step rowRead
-    row-done l t h a =
+    pub row-done : place < k → (t : Edit) (seen : Bool) (f : Found) → t ≡ rowAt (rowsIn (view r .prepared)) place
+        → seen ≡ opens (view r) (modeIn (view r .prepared)) (rowsIn (view r .prepared)) → f ≡ foundOf seen (entryOf (view r) (t .update .name))
+        → answerBy x ≡ answer 0 (rowPlaces t ++ (placeNumber f ∷ [])) → Replied x r r (replyTo (readRow place) r)
+    unfolding step rowRead rowFound
+    row-done l t seen f h es ef a =
         let b : place < length (rowsIn (view r .prepared)) = rw e at l in
-        let is-read : step (readRow place) (view r) ≡ done (view r) (row t) = rw (lt-leb _ _ b, h) in
-        says-read (readRow place) r ok is refl y x (row t) is-read a
+        let is-found : f ≡ rowFound (view r) t = ef ∙ ap (λ (seen : Bool). foundOf seen (entryOf (view r) (t .update .name))) es in
+        let is-read : step (readRow place) (view r) ≡ done (view r) (row t f) = rw (lt-leb _ _ b, is-found, h) in
+        says-read (readRow place) r ok is refl y x (row t f) is-read a
 
 pub row-near : (r : List ℕ) (place k : ℕ) → k ≡ length (rowsIn (view r .prepared)) → place < k → place < length (rowsIn (view r .prepared))
 row-near r place k e l = rw e at l

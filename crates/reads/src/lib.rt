@@ -1,4 +1,5 @@
-// Reads: a name's value, a line of its log, and a row of the prepared transaction.
+// Reads: a name's value with the place where it is found, a line of its log, and a row of the prepared transaction with the
+// place where its existing value was.
 ghost use Rattle.model.specs.Reply.Call.{readName, readLine, readRow};
 ghost use Rattle.calls.specs.Call.{replyTo, Replied};
 use answers::Answer;
@@ -15,8 +16,9 @@ pub fn read_name(region: &[u8], name: u64) -> Verdict
     let OptionName::Name(n) = region::known(region, name) else {
         return Verdict::one(Answer::NOT_REGISTERED, name);
     };
-    let value = steps::value_of(region, true, n);
-    Verdict::two(Answer::DONE, value.byte(), value.number())
+    let found = steps::found_of(region, true, n);
+    let value = found.value();
+    Verdict::three(Answer::DONE, value.byte(), value.number(), found.place())
 }
 
 pub fn read_line(region: &[u8], name: u64, place: u64) -> Verdict
@@ -51,5 +53,9 @@ pub fn read_row(region: &[u8], place: u64) -> Verdict
     if place >= (region::count_rows(region) as u64) {
         return Verdict::bare(Answer::NOTHING_THERE);
     }
-    Verdict::row(region::row_at(region, place as usize))
+    let row = region::row_at(region, place as usize);
+    let update = row.update;
+    // R3 saw the packed table where R2 opened it.
+    let opened = kept::opens_table(region);
+    Verdict::row(row, steps::found_of(region, opened, update.name))
 }

@@ -6,17 +6,19 @@ use Prim.Native.Nat.{ℕ, _^_, _≤_, _<_}
 use Prim.Native.Char.{Char, code}
 use native.Mathlib.Nat.{le-trans}
 use native.Mathlib.Omega.{arith}
-use lib.ListN.{length, getD, drop}
+use lib.ListN.{length, getD, drop, List·getD-eq-default}
 use lib.Dec.{eqb, ltb, leb, lit≤, lit<}
-use borrow.Author.Tests.{eqb-true, leb-true, ltb-true, not-true}
+use borrow.Author.Tests.{eqb-true, leb-true, ltb-true, ltb-false, not-true}
 use Rattle.word.specs.Be.{Bytes}
 use Rattle.word.specs.Be.Bytes.{none as noBytes, more}
 use Rattle.word.specs.Text.{FineText}
 use Rattle.word.proofs.Tests.{both-true, every-at}
+use Rattle.target.specs.declared.NameNumber.{NameNumber}
 use Rattle.target.specs.declared.Target.{Target}
 use Rattle.target.specs.declared.Target.the-variants.{Object, Symbolic}
 use Rattle.target.specs.declared.OptionTarget.{OptionTarget}
 use Rattle.target.specs.declared.OptionTarget.the-variants.{Absent, Present}
+use Rattle.target.specs.Found.{valueIn}
 use Rattle.transaction.specs.declared.ParentIndex.{ParentIndex}
 use Rattle.transaction.specs.declared.ParentIndex.the-variants.{NoParent, Parent}
 use Rattle.transaction.specs.declared.Edit.{Edit}
@@ -28,7 +30,8 @@ use Rattle.model.specs.declared.Packed.the-variants as packed
 use Rattle.model.specs.declared.Line.{Line}
 use Rattle.model.specs.Basic.{text, all, isEmpty}
 use Rattle.model.specs.Names.{isName, isSpecial, isRef, isComponent, isComponentByte, isUpper, between, isChar, begins, under, components, grow, endsIn, holds}
-use Rattle.model.specs.Store.{Store, Entry, count, entryAt, noLine, rowsIn, isId}
+use Rattle.model.specs.Store.{Store, Entry, noEntry, count, entryAt, entryOf, noLine, rowsIn, isId}
+use Rattle.model.specs.Read.{packedSeen, foundIn, valueOf}
 use Rattle.model.specs.Rows.{rowAt, nameIn, changeIn}
 use Rattle.model.specs.Fine.{Fine, entryTests, lineTests, rowTests, fineTarget, fineOption, fineLoose, finePacked, fineEntry, fineLine, fineParent, fineRow}
 use Rattle.slots.specs.Values.{FitsTarget, FitsLoose, FitsPacked, FitsLine}
@@ -214,3 +217,28 @@ fine-fits s f =
       rows = f .bounded;
       row = λ i h. row-fits (count s) (f .few) (rowsIn (s .prepared)) i (let b : length (rowsIn (s .prepared)) ≤ 160 = f .bounded in le-trans h b) (f .rows i h);
     }
+
+-- ---- what a name reads in such a store fits too, also where the name is not registered
+
+seen-fits : (seen : Bool) (p : Packed) → FitsPacked p → FitsPacked (packedSeen seen p)
+seen-fits true p f = f
+seen-fits false p f = tt
+
+found-fits : (v : Loose) (p : Packed) → FitsLoose v → FitsPacked p → FitsOption (valueIn (foundIn v p))
+found-fits (loose.Target t) p f g = f
+found-fits loose.None (packed.Object o) f g = g
+found-fits loose.Broken (packed.Object o) f g = g
+found-fits loose.None packed.None f g = tt
+found-fits loose.Broken packed.None f g = tt
+
+pub reads-fit : (s : Store) → FitsStore s → (seen : Bool) (n : NameNumber) → FitsOption (valueOf seen (entryOf s n))
+reads-fit s f seen n = go (ltb (n .0) (count s)) refl
+  where
+    fit : (e : Entry) → FitsLoose (e .loose) → FitsPacked (e .packed) → FitsOption (valueOf seen e)
+    fit e v p = found-fits (e .loose) _ v (seen-fits seen (e .packed) p)
+
+    go : (b : Bool) → ltb (n .0) (count s) ≡ b → FitsOption (valueOf seen (entryOf s n))
+    go true q = let e = f .entry (n .0) (ltb-true (n .0) (count s) q) in fit (entryOf s n) (e .1) (e .2)
+    go false q =
+        let far : count s ≤ n .0 = ltb-false (n .0) (count s) q in
+        rw (List·getD-eq-default (s .entries) noEntry far) (fit noEntry tt tt)

@@ -71,7 +71,7 @@ fn main() {
     let mut input = [0u8; 65536];
     let mut line = [0u8; 128];
     let mut region = [0u8; 49549];
-    let mut notes = [0u64; 11599];
+    let mut notes = [0u64; 12699];
     notes[Note::WORD] = Word::REMARK;
     all(&mut input, &mut line, &mut region, &mut notes);
     faults::end(&mut notes);

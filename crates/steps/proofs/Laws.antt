@@ -1,5 +1,5 @@
 -- What the proofs below the calls cite, over variables: numbers told apart, and the turns and ends of the loops. Assumes nothing.
-use mathlib.Core.Path.{_≡_, refl, sym, ap, _∙_}
+use mathlib.Core.Path.{_≡_, refl, sym, ap, ap₂, _∙_}
 use mathlib.Core.Bool.{Bool, true, false, not, _&&_, cond, true≢false, false≢true}
 use mathlib.Core.List.{List, [], _∷_, map}
 use mathlib.Core.Option.{Option, none, some}
@@ -16,13 +16,16 @@ use Rattle.target.specs.declared.NameNumber.{NameNumber}
 use Rattle.target.specs.declared.ObjectNumber.{ObjectNumber}
 use Rattle.target.specs.declared.OptionObject.{OptionObject}
 use Rattle.target.specs.declared.OptionObject.the-variants.{NoId, Id}
-use Rattle.target.specs.declared.Target.the-variants.{Object}
+use Rattle.target.specs.declared.Target.{Target}
 use Rattle.target.specs.declared.OptionTarget.{OptionTarget}
-use Rattle.target.specs.declared.OptionTarget.the-variants.{Absent, Present}
+use Rattle.target.specs.declared.Found.{Found}
+use Rattle.target.specs.declared.Found.the-variants as found
+use Rattle.target.specs.Found.{valueIn}
 use Rattle.target.specs.Fields.{objectOf}
 use Rattle.model.specs.declared.Loose.{Loose}
+use Rattle.model.specs.declared.Loose.the-variants as loose
 use Rattle.model.specs.declared.Packed.{Packed}
-use Rattle.model.specs.Read.{packedValue, looseOr, valueOf}
+use Rattle.model.specs.Read.{packedSeen, foundIn, foundOf, valueOf}
 use Rattle.model.specs.declared.Lock.{Lock}
 use Rattle.model.specs.declared.Lock.the-variants.{Free, Foreign}
 use Rattle.model.specs.declared.Packed.the-variants as packed
@@ -186,30 +189,38 @@ released-is r₀ r₁ r₂ r₃ a l h₁ ea el h₂ h₃ =
 
 -- ---- what a name reads
 
-module _ (seen : Bool) (p : Packed) where
-  pub unseen-is : not seen ≡ true → Absent ≡ packedValue seen p
-  unseen-is t = rw (not-true seen t)
+pub unseen-is : (seen : Bool) (p : Packed) → not seen ≡ true → packed.None ≡ packedSeen seen p
+unseen-is seen p t = rw (not-true seen t)
 
-  pub seen-none : not seen ≡ false → p ≡ packed.None → Absent ≡ packedValue seen p
-  seen-none t e = rw (not-false seen t, e)
+pub seen-is : (seen : Bool) (p : Packed) → not seen ≡ false → p ≡ packedSeen seen p
+seen-is seen p t = rw (not-false seen t)
 
-  pub seen-object : (o : ObjectNumber) → not seen ≡ false → p ≡ packed.Object o → Present (Object o) ≡ packedValue seen p
-  seen-object o t e = rw (not-false seen t, e)
+module _ (l : Loose) (p : Packed) where
+  pub in-loose : (t : Target) → l ≡ loose.Target t → found.Loose t ≡ foundIn l p
+  in-loose t e = rw e
 
-none-seen : (seen : Bool) → valueOf seen noEntry ≡ Absent
-none-seen true = refl
-none-seen false = refl
+  pub in-packed : (o : ObjectNumber) → l ≡ loose.None → p ≡ packed.Object o → found.Packed o ≡ foundIn l p
+  in-packed o e f = rw (e, f)
+
+  pub in-behind : (o : ObjectNumber) → l ≡ loose.Broken → p ≡ packed.Object o → found.PackedBehindBroken o ≡ foundIn l p
+  in-behind o e f = rw (e, f)
+
+none-found : (seen : Bool) → foundOf seen noEntry ≡ found.Absent
+none-found true = refl
+none-found false = refl
 
 module _ (s : Store) (seen : Bool) (name : NameNumber) where
-  pub value-none : (n m : ℕ) → n ≡ name .0 → m ≡ count s → m ≤ n → Absent ≡ valueOf seen (entryOf s name)
-  value-none n m en e l =
+  pub found-none : (n m : ℕ) → n ≡ name .0 → m ≡ count s → m ≤ n → found.Absent ≡ foundOf seen (entryOf s name)
+  found-none n m en e l =
       let b : count s ≤ name .0 = omega arith in
-      sym (ap (valueOf seen) (List·getD-eq-default (s .entries) noEntry b) ∙ none-seen seen)
+      sym (ap (foundOf seen) (List·getD-eq-default (s .entries) noEntry b) ∙ none-found seen)
 
-  pub value-at : (p : Packed) (q : OptionTarget) (l : Loose) (r : OptionTarget) → p ≡ entryOf s name .packed → q ≡ packedValue seen p → l ≡ entryOf s name .loose
-      → r ≡ looseOr l q → r ≡ valueOf seen (entryOf s name)
-  value-at p q l r ep eq el er =
-      er ∙ ap (λ (l : Loose). looseOr l q) el ∙ ap (looseOr (entryOf s name .loose)) (eq ∙ ap (packedValue seen) ep)
+  pub found-at : (p q : Packed) (l : Loose) (r : Found) → p ≡ entryOf s name .packed → q ≡ packedSeen seen p → l ≡ entryOf s name .loose
+      → r ≡ foundIn l q → r ≡ foundOf seen (entryOf s name)
+  found-at p q l r ep eq el er = er ∙ ap₂ foundIn el (eq ∙ ap (packedSeen seen) ep)
+
+  pub value-is : (x : Found) (v : OptionTarget) → x ≡ foundOf seen (entryOf s name) → v ≡ valueIn x → v ≡ valueOf seen (entryOf s name)
+  value-is x v ex ev = ev ∙ ap valueIn ex
 
 -- ---- the line of a name at a place
 

@@ -3,7 +3,7 @@ ghost use mathlib.Core.Path.{_≡_};
 ghost use mathlib.Core.Bool.{_&&_};
 ghost use lib.Dec.{eqb};
 ghost use Rattle.model.specs.Store.{count, entryOf, linesOf};
-ghost use Rattle.model.specs.Read.{looseOr, packedValue, valueOf};
+ghost use Rattle.model.specs.Read.{packedSeen, foundIn, foundOf, valueOf};
 ghost use Rattle.model.specs.Commit.{freed, released};
 ghost use Rattle.model.specs.Load.{numberFrom};
 ghost use Rattle.region.specs.Region.{view, Laid, Became};
@@ -13,12 +13,12 @@ use model::Lock;
 use model::Loose;
 use model::OptionLine;
 use model::Packed;
+use target::Found;
 use target::NameNumber;
 use target::ObjectNumber;
 use target::OptionName;
 use target::OptionObject;
 use target::OptionTarget;
-use target::Target;
 
 // ---- names
 
@@ -139,39 +139,51 @@ pub fn release(region: &mut [u8])
 // ---- reads
 
 // The packed value, where the packed table is seen.
-fn packed_value(seen: bool, packed: Packed) -> OptionTarget
-    ensures { λ r. ⌜ r ≡ packedValue seen packed ⌝ }
+fn packed_seen(seen: bool, packed: Packed) -> Packed
+    ensures { λ r. ⌜ r ≡ packedSeen seen packed ⌝ }
 {
     if !seen {
-        return OptionTarget::Absent;
+        return Packed::None;
     }
-    match packed {
-        Packed::None => OptionTarget::Absent,
-        Packed::Object(oid) => OptionTarget::Present(Target::Object(oid)),
-    }
+    packed
 }
 
 // A loose target; if that is none or broken, the packed value.
-fn loose_or(loose: Loose, packed: OptionTarget) -> OptionTarget
-    ensures { λ r. ⌜ r ≡ looseOr loose packed ⌝ }
+fn found_in(loose: Loose, packed: Packed) -> Found
+    ensures { λ r. ⌜ r ≡ foundIn loose packed ⌝ }
 {
     match loose {
-        Loose::None => packed,
-        Loose::Target(t) => OptionTarget::Present(t),
-        Loose::Broken => packed,
+        Loose::Target(t) => Found::Loose(t),
+        Loose::None => match packed {
+            Packed::Object(oid) => Found::Packed(oid),
+            Packed::None => Found::Absent,
+        },
+        Loose::Broken => match packed {
+            Packed::Object(oid) => Found::PackedBehindBroken(oid),
+            Packed::None => Found::AbsentBehindBroken,
+        },
     }
 }
 
-// What a name reads, with the packed table seen or not; a number that is not registered reads absent.
+// What a name reads and where it is found, with the packed table seen or not; a number that is not registered reads absent.
+pub fn found_of(region: &[u8], seen: bool, name: NameNumber) -> Found
+    requires { ⌜ Laid (now region) ⌝ }
+    ensures { λ r. ⌜ r ≡ foundOf seen (entryOf (view (now (region .entry))) name) ⌝ }
+{
+    if name.place() >= region::count_names(region) {
+        return Found::Absent;
+    }
+    let packed = packed_seen(seen, region::packed_at(region, name));
+    found_in(region::loose_at(region, name), packed)
+}
+
+// The value part.
 pub fn value_of(region: &[u8], seen: bool, name: NameNumber) -> OptionTarget
     requires { ⌜ Laid (now region) ⌝ }
     ensures { λ r. ⌜ r ≡ valueOf seen (entryOf (view (now (region .entry))) name) ⌝ }
 {
-    if name.place() >= region::count_names(region) {
-        return OptionTarget::Absent;
-    }
-    let packed = packed_value(seen, region::packed_at(region, name));
-    loose_or(region::loose_at(region, name), packed)
+    let found = found_of(region, seen, name);
+    found.value()
 }
 
 // Whether a line is the one: it is the name's, and no other is to be passed before.

@@ -132,7 +132,22 @@ pub fn number_read(notes: &Notes, name: u64) -> u64 {
     }
 }
 
-// ---- values in the region: no call tells a loose one from a packed one
+// Where that is found, by the numbers of an answer, with the packed table seen or not. A loose value of kind 3 is broken.
+fn place_behind(broken: bool, packed: bool) -> u64 {
+    let place: u64 = if packed { 2 } else { 4 };
+    if broken { place + 1 } else { place }
+}
+
+pub fn place_read(notes: &Notes, name: u64, seen: bool) -> u64 {
+    if reads_loose(notes, name) {
+        return 1;
+    }
+    let broken = notes::of_name(notes, Note::LOOSE_KIND, name) == 3;
+    let packed = seen && notes::of_name(notes, Note::PACKED, name) != 0;
+    place_behind(broken, packed)
+}
+
+// ---- values in the region: a packed one that a loose one hides, no call tells
 
 // A number of the region is the one that a table has for a name.
 fn value_at(region: &Region, at: usize, width: usize, table: usize, name: u64, notes: &mut Notes) {

@@ -5,9 +5,7 @@ use mathlib.Core.List.{List}
 use mathlib.Core.Option.{Option, none, some}
 use Prim.Native.Nat.{ℕ, _<_, _≤_, _^_}
 use native.Mathlib.Omega.{arith}
-use lib.ListN.{length, set, length-set, List·getD-eq-default}
-use lib.Dec.{ltb}
-use borrow.Author.Tests.{ltb-true, ltb-false}
+use lib.ListN.{length, set, length-set}
 use Rattle.target.specs.declared.NameNumber.{NameNumber}
 use Rattle.target.specs.declared.ObjectNumber.{ObjectNumber}
 use Rattle.target.specs.declared.OptionTarget.{OptionTarget}
@@ -19,19 +17,14 @@ use Rattle.transaction.specs.declared.ParentIndex.{ParentIndex}
 use Rattle.transaction.specs.declared.ParentIndex.the-variants.{NoParent, Parent}
 use Rattle.transaction.specs.declared.Edit.{Edit}
 use Rattle.transaction.specs.Change.{messageOf, newValue, previousValue, previousOid}
-use Rattle.model.specs.declared.Loose.{Loose}
-use Rattle.model.specs.declared.Loose.the-variants as loose
-use Rattle.model.specs.declared.Packed.{Packed}
-use Rattle.model.specs.declared.Packed.the-variants as packed
-use Rattle.model.specs.Store.{Store, Entry, Prepared, noEntry, count, entryOf, rowsIn, rowsAs, withPrepared, withRows}
-use Rattle.model.specs.Read.{packedValue, looseOr, valueOf}
+use Rattle.model.specs.Store.{Store, Prepared, rowsIn, rowsAs, withPrepared, withRows}
 use Rattle.model.specs.Rows.{nameIn, changeIn, rowAt, ancestors}
 use Rattle.model.specs.Fine.{Upward}
 use Rattle.model.specs.Prepare.{existing, observing, observed, withLeaf, handedTo, turned}
 use Rattle.model.proofs.Climbs.{parentAt, falls}
-use Rattle.slots.specs.Values.{FitsLoose, FitsPacked}
 use Rattle.slots.specs.Row.{FitsRow, FitsOption}
 use Rattle.region.specs.Region.{view, Laid, Became}
+use Rattle.region.proofs.Fits.{reads-fit}
 use Rattle.region.proofs.Decode.{laid-image}
 use Rattle.writers.proofs.OtherRows.{as-as, own-rows}
 use Rattle.turns.proofs.Climb.{leaf-upward, hand-none, hand-up, kept-upward, turned-none, turned-handed}
@@ -131,28 +124,6 @@ module _ {r : List ℕ} {i p : ℕ} (u : Under r i p) where
 
 -- ---- an existing value fits
 
-packed-fits : (seen : Bool) (p : Packed) → FitsPacked p → FitsOption (packedValue seen p)
-packed-fits true packed.None f = tt
-packed-fits true (packed.Object o) f = f
-packed-fits false p f = tt
-
-value-fits : (seen : Bool) (v : Loose) (p : Packed) → FitsLoose v → FitsPacked p → FitsOption (looseOr v (packedValue seen p))
-value-fits seen loose.None p f g = packed-fits seen p g
-value-fits seen (loose.Target t) p f g = f
-value-fits seen loose.Broken p f g = packed-fits seen p g
-
-seen-fits : (r : List ℕ) → Laid r → (seen : Bool) (name : NameNumber) → FitsOption (valueOf seen (entryOf (view r) name))
-seen-fits r l seen name = go (ltb (name .0) (count (view r))) refl
-  where
-    go : (b : Bool) → ltb (name .0) (count (view r)) ≡ b → FitsOption (valueOf seen (entryOf (view r) name))
-    go true p =
-        let f = laid-image r l .1 .entry (name .0) (ltb-true (name .0) (count (view r)) p) in
-        value-fits seen (entryOf (view r) name .loose) (entryOf (view r) name .packed) (f .1) (f .2)
-    go false p =
-        let h : count (view r) ≤ name .0 = ltb-false (name .0) (count (view r)) p in
-        subst (λ (e : Entry). FitsOption (valueOf seen e)) (sym (List·getD-eq-default (view r .entries) noEntry h))
-        (value-fits seen loose.None packed.None tt tt)
-
 observing-was : (c : Change) (x : OptionTarget) → FitsOption (previousValue c) → FitsOption x → FitsOption (previousValue (observing c x))
 observing-was c Absent f g = f
 observing-was (Update log expected new) (Present t) f g = g
@@ -181,7 +152,7 @@ module _ (r : List ℕ) (i : ℕ) (opened : Bool) (row : Edit) (x : OptionTarget
         name = f .name;
         deref = f .deref;
         message = subst (λ (n : ℕ). n < 2 ^ 16) (sym (observing-message (changeIn row) x)) (f .message);
-        was = observing-was (changeIn row) x (f .was) (subst FitsOption (sym ex) (seen-fits r l opened (nameIn row)));
+        was = observing-was (changeIn row) x (f .was) (subst FitsOption (sym ex) (reads-fit (view r) (laid-image r l .1) opened (nameIn row)));
         new = subst FitsOption (sym (observing-new (changeIn row) x)) (f .new);
         parent = f .parent;
         leaf = f .leaf;

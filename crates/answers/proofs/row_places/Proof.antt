@@ -45,6 +45,9 @@ array-read-t39 c = search needs
 array-read-t42 : tie.Need-array-read-t42
 array-read-t42 c = search needs
 
+place-requires : tie.Need-place-requires
+place-requires c κs = search needs
+
 returns : tie.Need-returns
 returns c = search row-is
 
@@ -66,4 +69,5 @@ row-places-spec =
     array-read-t36
     array-read-t39
     array-read-t42
+    place-requires
     returns)

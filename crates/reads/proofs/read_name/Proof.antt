@@ -28,8 +28,11 @@ one-requires c κs = search needs
 returns-2 : tie.Need-returns-2
 returns-2 c = search name-far
 
-value-of-requires : tie.Need-value-of-requires
-value-of-requires c κs = search good-laid
+found-of-requires : tie.Need-found-of-requires
+found-of-requires c κs = search good-laid
+
+value-requires : tie.Need-value-requires
+value-requires c κs = search needs
 
 byte-requires : tie.Need-byte-requires
 byte-requires c κs = search needs
@@ -37,8 +40,11 @@ byte-requires c κs = search needs
 number-requires : tie.Need-number-requires
 number-requires c κs = search needs
 
-two-requires : tie.Need-two-requires
-two-requires c κs = search needs
+place-requires : tie.Need-place-requires
+place-requires c κs = search needs
+
+three-requires : tie.Need-three-requires
+three-requires c κs = search needs
 
 returns-3 : tie.Need-returns-3
 returns-3 c = search name-done
@@ -55,8 +61,10 @@ read-name-spec =
     enum-told
     one-requires
     returns-2
-    value-of-requires
+    found-of-requires
+    value-requires
     byte-requires
     number-requires
-    two-requires
+    place-requires
+    three-requires
     returns-3)

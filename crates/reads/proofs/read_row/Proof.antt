@@ -25,6 +25,12 @@ returns-2 c = search row-far
 row-at-requires : tie.Need-row-at-requires
 row-at-requires c κs = (search good-laid, search row-near)
 
+opens-table-requires : tie.Need-opens-table-requires
+opens-table-requires c κs = search good-laid
+
+found-of-requires : tie.Need-found-of-requires
+found-of-requires c κs = search good-laid
+
 row-requires : tie.Need-row-requires
 row-requires c κs = search needs
 
@@ -42,5 +48,7 @@ read-row-spec =
     bare-requires-2
     returns-2
     row-at-requires
+    opens-table-requires
+    found-of-requires
     row-requires
     returns-3)
