@@ -134,8 +134,10 @@ pub fn number_read(notes: &Notes, name: u64) -> u64 {
 
 // Where that is found, by the numbers of an answer, with the packed table seen or not. A loose value of kind 3 is broken.
 fn place_behind(broken: bool, packed: bool) -> u64 {
-    let place: u64 = if packed { 2 } else { 4 };
-    if broken { place + 1 } else { place }
+    if packed {
+        return if broken { 3 } else { 2 };
+    }
+    if broken { 5 } else { 4 }
 }
 
 pub fn place_read(notes: &Notes, name: u64, seen: bool) -> u64 {

@@ -4,10 +4,13 @@ use Rattle.outlook.proofs.prepared.rows_of.Statement.{statement}
 use Rattle.outlook.proofs.prepared.rows_of.Tie as tie
 
 abbrev Inv-loop : tie.InvT-loop
-Inv-loop region rows i₀ i = Unit {0}
+Inv-loop region opened rows i₀ i = Unit {0}
 
 abbrev μ-loop : tie.MeasureT-loop
-μ-loop region rows i₀ i = rows - i
+μ-loop region opened rows i₀ i = rows - i
+
+opens-table-requires : tie.Need-opens-table-requires Inv-loop μ-loop
+opens-table-requires c κs = search needs
 
 count-rows-requires : tie.Need-count-rows-requires Inv-loop μ-loop
 count-rows-requires c κs = search needs
@@ -36,6 +39,7 @@ rows-of-spec =
     (tie.spec
     Inv-loop
     μ-loop
+    opens-table-requires
     count-rows-requires
     loop-holds
     row-requires
