@@ -150,10 +150,11 @@ static void make_good()
     lock("refs/tags/gone");
 }
 
-// All kinds of rows, and of writes.
+// All kinds of rows and of writes, and rows whose value was found at each of the five places.
 static void make_prepared()
 {
     make_good();
+    loose("refs/tags/flat", DEHLBAZIN_KIND_BROKEN, 0);
     Edit through = update("HEAD", 4104);
     through.deref = 1;
     through.message = 6;
@@ -168,7 +169,7 @@ static void make_prepared()
     first.expected = DEHLBAZIN_EXPECTED_EXISTING_MUST_MATCH;
     first.was = 2;
     prepare({through, same, forced, first, link("ORIG_HEAD", "refs/heads/aisle-9"), removal("refs/tags/bent"),
-             removal("refs/heads/old")},
+             removal("refs/heads/old"), removal("refs/tags/flat")},
             DEHLBAZIN_MODE_UPDATES);
 }
 
