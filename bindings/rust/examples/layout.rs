@@ -31,12 +31,10 @@ fn say(store: &Store<'_>, result: Result<Outcome, Refusal>) {
     }
 }
 
+/// Each value with its place, so that it shows which one is old because a newer one is broken.
 fn say_values(store: &Store<'_>) -> Result<(), Refusal> {
     for name in store.names() {
-        match store.read_name(name.number)? {
-            Some(target) => println!("{:<20} {}", name.text, target.in_words(store)),
-            None => println!("{:<20} nothing", name.text),
-        }
+        println!("{:<20} {}", name.text, store.read_name(name.number)?.in_words(store));
     }
     Ok(())
 }
@@ -57,9 +55,12 @@ fn serve(region: &mut Region) -> Result<(), Refusal> {
     let head = store.add_name("HEAD")?;
     let aisle7 = store.add_name("refs/heads/aisle-7")?;
     let aisle8 = store.add_name("refs/heads/aisle-8")?;
+    let aisle9 = store.add_name("refs/heads/aisle-9")?;
     store.load_loose(head, Target::Symbolic(aisle7))?;
     store.load_loose(aisle7, Target::Object(ObjectNumber::new(4102)?))?;
     store.load_loose(aisle8, Target::Object(ObjectNumber::new(u64::MAX)?))?; // every 64-bit number but 0 is a layout
+    store.load_packed(aisle9, ObjectNumber::new(4090)?)?;
+    store.load_loose(aisle9, Loose::Broken)?; // a newer layout was there, and cannot be read any more
     say_values(&store)?;
 
     let moved = make(&mut store, &[moving(head, 4102, 4103)?], EVERY_WRITE);

@@ -1,6 +1,6 @@
 //! What an entry answers: a number, and a record of 16 places.
 
-use crate::{Committer, Message, NameNumber, ObjectNumber, PackedRefs, Refusal, Setting, Site, Target};
+use crate::{Committer, Found, Message, NameNumber, ObjectNumber, PackedRefs, Place, Refusal, Setting, Site, Target};
 
 pub(crate) const ANSWER_SIZE: usize = 128;
 pub(crate) type Record = [u8; ANSWER_SIZE];
@@ -87,6 +87,17 @@ impl Answer {
             (KIND_NONE, 0) => Some(None),
             _ => self.target(i).map(Some),
         }
+    }
+
+    /// Where a value was found.
+    pub(crate) fn found_in(&self, i: usize) -> Option<Place> {
+        Place::of(self.place(i))
+    }
+
+    /// What a name reads, in three places. There is a value exactly if it was found somewhere.
+    pub(crate) fn found(&self, i: usize) -> Option<Found> {
+        let found = Found { target: self.value(i)?, place: self.found_in(i + 2)? };
+        Some(found).filter(|found| found.target.is_none() == found.place.is_absent())
     }
 
     /// What a call gives when it is done, or its refusal.

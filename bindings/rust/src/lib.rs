@@ -4,7 +4,7 @@
 //! calls mean.
 //!
 //! ```
-//! use dehlbazin::{Committer, EditList, ObjectNumber, PackedRefs, PreviousValue, RefEdit, Setting, Store, Target};
+//! use dehlbazin::{Committer, EditList, ObjectNumber, PackedRefs, Place, PreviousValue, RefEdit, Setting, Store, Target};
 //!
 //! let mut region = Box::new([0; dehlbazin::REGION_SIZE]);
 //! let mut store = Store::start(&mut region, Setting::Normal)?;
@@ -17,13 +17,16 @@
 //! let list = EditList::of([RefEdit::update(head, PreviousValue::MustNotExist, layout).through_links()])?;
 //! let outcome = store.prepare(&list, PackedRefs::DeletionsOnly)?.commit(Committer::new(12)?)?;
 //! assert_eq!(outcome.writes(), 3); // a log line of HEAD, one of the aisle, and its value
-//! assert_eq!(store.read_name(aisle)?, Some(layout));
+//! let found = store.read_name(aisle)?;
+//! assert_eq!((found.target, found.place), (Some(layout), Place::Loose));
 //! # Ok::<(), dehlbazin::Refusal>(())
 //! ```
 //!
 //! - Each call gives a [`Result`], with a [`Refusal`] that holds what comes with its number. Nothing here panics. A commit that
 //!   is stopped on its way is no refusal: it is an [`Outcome`], with the number of writes that were made.
 //! - A [`Store`] keeps no copy of anything: each call reads the region, and tests it whole first.
+//! - What a name reads is [`Found`] in a [`Place`]: loose, packed, or neither, and perhaps behind a loose value that is broken.
+//!   A [`Row`] has the place of what prepare found.
 //! - What a site keeps between runs is a record of its own: [`Settings`] are written to one, a [`SettingsView`] reads it, and
 //!   a store is started with it.
 //! - What no call can test, the borrow rules see to: that what is lent is there, that nothing overlaps, and that calls on one
@@ -36,6 +39,7 @@ mod answer;
 mod edit;
 #[allow(unsafe_code)]
 mod entries;
+mod found;
 mod numbers;
 mod refusal;
 mod settings;
@@ -48,6 +52,7 @@ mod words;
 
 pub use edit::{Change, EditList, LogChange, PackedRefs, PreviousValue, RefEdit, RefLog};
 pub use entries::REGION_SIZE;
+pub use found::{Found, Place};
 pub use numbers::{Committer, Message, NameNumber, ObjectNumber, Site};
 pub use refusal::Refusal;
 pub use settings::{Committers, NamedCommitter, Settings, SettingsView, Version};
@@ -61,5 +66,5 @@ pub use words::InWords;
 /// A region of the right size. Bytes whose size is not known go to [`Store::open_in`] and [`Store::start_in`].
 pub type Region = [u8; REGION_SIZE];
 
-/// The version of the interface that this crate was written for, as `DEHLBAZIN_VERSION` of include/dehlbazin.h has it: 0.6.0.
-pub const VERSION: u32 = 6000;
+/// The version of the interface that this crate was written for, as `DEHLBAZIN_VERSION` of include/dehlbazin.h has it: 0.7.0.
+pub const VERSION: u32 = 7000;

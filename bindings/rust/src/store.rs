@@ -2,8 +2,8 @@
 
 use crate::answer::{Answer, DONE, KIND_NONE, KIND_OBJECT};
 use crate::{
-    entries, Committer, EditList, Line, Lines, Loose, NameNumber, Names, ObjectNumber, PackedRefs, Refusal, Region, Row, Rows,
-    Target, Transaction, View,
+    entries, Committer, EditList, Found, Line, Lines, Loose, NameNumber, Names, ObjectNumber, PackedRefs, Refusal, Region, Row,
+    Rows, Transaction, View,
 };
 
 /// Which names get log lines.
@@ -292,8 +292,8 @@ impl Store<'_> {
         self.view().name(name)
     }
 
-    /// What a name reads; `None` where it reads nothing.
-    pub fn read_name(&self, name: NameNumber) -> Result<Option<Target>, Refusal> {
+    /// What a name reads, and where it was found.
+    pub fn read_name(&self, name: NameNumber) -> Result<Found, Refusal> {
         self.view().read_name(name)
     }
 

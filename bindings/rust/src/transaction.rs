@@ -14,11 +14,11 @@ use crate::{Committer, EditList, NameNumber, Outcome, PackedRefs, Refusal, Store
 /// let list = EditList::of([RefEdit::update(aisle, PreviousValue::MustNotExist, layout)])?;
 ///
 /// drop(store.prepare(&list, PackedRefs::DeletionsOnly)?);
-/// assert_eq!(store.read_name(aisle), Ok(None)); // nothing came of it, and its locks are free
+/// assert_eq!(store.read_name(aisle)?.target, None); // nothing came of it, and its locks are free
 ///
 /// let outcome = store.prepare(&list, PackedRefs::DeletionsOnly)?.commit(Committer::new(12)?)?;
 /// assert_eq!(outcome.to_string(), "2 writes");
-/// assert_eq!(store.read_name(aisle), Ok(Some(layout)));
+/// assert_eq!(store.read_name(aisle)?.target, Some(layout));
 /// # Ok::<(), dehlbazin::Refusal>(())
 /// ```
 ///

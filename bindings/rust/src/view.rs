@@ -3,7 +3,8 @@
 use crate::answer::Answer;
 use crate::edit::{ROW_DELETE, ROW_UPDATE};
 use crate::{
-    entries, Change, Committer, LogChange, Message, NameNumber, ObjectNumber, PreviousValue, RefLog, Refusal, Region, Target,
+    entries, Change, Committer, Found, LogChange, Message, NameNumber, ObjectNumber, Place, PreviousValue, RefLog, Refusal,
+    Region,
 };
 
 /// A line of a name's log.
@@ -20,6 +21,25 @@ pub struct Line {
 }
 
 /// A row of the prepared transaction: an edit, or a child of one through a link.
+///
+/// Prepare sees packed values only if it opened the packed table. So a row may have found nothing where the name reads a value:
+///
+/// ```
+/// use dehlbazin::{EditList, LogChange, ObjectNumber, PackedRefs, Place, PreviousValue, RefEdit, RefLog, Setting, Store};
+///
+/// let mut region = vec![0; dehlbazin::REGION_SIZE];
+/// let mut store = Store::start_in(&mut region, Setting::Normal)?;
+/// let aisle = store.add_name("refs/heads/aisle")?;
+/// store.load_packed(aisle, ObjectNumber::new(7)?)?;
+///
+/// // The packed table is not opened for the log alone.
+/// let log = LogChange { mode: RefLog::Only, ..LogChange::default() };
+/// let edit = RefEdit::update_with(log, aisle, PreviousValue::Any, ObjectNumber::new(9)?);
+/// let transaction = store.prepare(&EditList::of([edit])?, PackedRefs::DeletionsOnly)?;
+/// assert_eq!(transaction.store().read_row(0)?.found, Place::Absent);
+/// assert_eq!(transaction.store().read_name(aisle)?.place, Place::Packed);
+/// # Ok::<(), dehlbazin::Refusal>(())
+/// ```
 #[derive(Clone, Copy, Debug, PartialEq, Eq, Hash)]
 pub struct Row {
     /// Its name.
@@ -30,6 +50,8 @@ pub struct Row {
     pub parent: Option<u64>,
     /// The object at the end of the links, if one was there.
     pub leaf_previous: Option<ObjectNumber>,
+    /// Where prepare found the name's value, with packed values seen only if it opened the packed table.
+    pub found: Place,
 }
 
 /// A good region, to be read. It changes nothing, and the bytes may be in memory that can only be read.
@@ -41,7 +63,7 @@ pub struct Row {
 /// let head = Store::start_in(&mut region, Setting::Normal)?.add_name("HEAD")?;
 /// let view = View::open_in(&region)?;
 /// assert_eq!(view.name(head), Ok("HEAD"));
-/// assert_eq!(view.read_name(head), Ok(None));
+/// assert_eq!(view.read_name(head)?.target, None);
 /// # Ok::<(), dehlbazin::Refusal>(())
 /// ```
 #[derive(Clone, Copy)]
@@ -84,9 +106,9 @@ impl<'a> View<'a> {
         std::str::from_utf8(self.name_bytes(name)?).map_err(|_| Refusal::Unexpected { number: 0 })
     }
 
-    /// What a name reads; `None` where it reads nothing.
-    pub fn read_name(self, name: NameNumber) -> Result<Option<Target>, Refusal> {
-        entries::read_name(self.region, name.get()).given(|answer| answer.value(0))
+    /// What a name reads, and where it was found. Packed values are always seen.
+    pub fn read_name(self, name: NameNumber) -> Result<Found, Refusal> {
+        entries::read_name(self.region, name.get()).given(|answer| answer.found(0))
     }
 
     /// A line of a name's log, the oldest at place 0.
@@ -117,7 +139,8 @@ fn line_of(answer: &Answer) -> Option<Line> {
 
 fn row_of(answer: &Answer) -> Option<Row> {
     let parent = if answer.flag(10)? { Some(answer.place(11)) } else { None };
-    Some(Row { name: answer.name(0)?, change: change_of(answer)?, parent, leaf_previous: answer.object(12) })
+    let (name, change) = (answer.name(0)?, change_of(answer)?);
+    Some(Row { name, change, parent, leaf_previous: answer.object(12), found: answer.found_in(13)? })
 }
 
 fn change_of(answer: &Answer) -> Option<Change> {

@@ -1,9 +1,9 @@
-//! Refusals, targets and outcomes in words.
+//! Refusals, targets, places and outcomes in words.
 
-use crate::{NameNumber, Outcome, Refusal, Target, View};
+use crate::{Found, NameNumber, Outcome, Place, Refusal, Target, View};
 use std::fmt::{Display, Formatter, Result};
 
-/// Something in words, with names by their bytes. Made by [`Refusal::in_words`] and [`Target::in_words`].
+/// Something in words, with names by their bytes. Made by [`Refusal::in_words`], [`Target::in_words`] and [`Found::in_words`].
 #[derive(Clone, Copy, Debug)]
 pub struct InWords<'s, T> {
     what: T,
@@ -24,6 +24,13 @@ impl Target {
     }
 }
 
+impl Found {
+    /// In words with the store's names: "a link to HEAD, loose", "object 9, packed", "absent".
+    pub fn in_words<'s>(self, store: impl Into<View<'s>>) -> InWords<'s, Found> {
+        InWords { what: self, store: store.into() }
+    }
+}
+
 impl Display for InWords<'_, Refusal> {
     fn fmt(&self, f: &mut Formatter<'_>) -> Result {
         Speaker(Some(self.store)).refusal(f, self.what)
@@ -33,6 +40,12 @@ impl Display for InWords<'_, Refusal> {
 impl Display for InWords<'_, Target> {
     fn fmt(&self, f: &mut Formatter<'_>) -> Result {
         Speaker(Some(self.store)).target(f, self.what)
+    }
+}
+
+impl Display for InWords<'_, Found> {
+    fn fmt(&self, f: &mut Formatter<'_>) -> Result {
+        Speaker(Some(self.store)).found(f, self.what)
     }
 }
 
@@ -47,6 +60,26 @@ impl Display for Refusal {
 impl Display for Target {
     fn fmt(&self, f: &mut Formatter<'_>) -> Result {
         Speaker(None).target(f, *self)
+    }
+}
+
+/// "a link to name 0, loose", "object 9, packed", "absent".
+impl Display for Found {
+    fn fmt(&self, f: &mut Formatter<'_>) -> Result {
+        Speaker(None).found(f, *self)
+    }
+}
+
+/// "loose", "packed", "packed behind a broken loose", "absent", "absent behind a broken loose".
+impl Display for Place {
+    fn fmt(&self, f: &mut Formatter<'_>) -> Result {
+        f.write_str(match self {
+            Place::Loose => "loose",
+            Place::Packed => "packed",
+            Place::PackedBehindBroken => "packed behind a broken loose",
+            Place::Absent => "absent",
+            Place::AbsentBehindBroken => "absent behind a broken loose",
+        })
     }
 }
 
@@ -81,6 +114,15 @@ impl Speaker<'_> {
                 self.name(f, name)
             }
         }
+    }
+
+    /// The value and its place; of what is absent, the place alone.
+    fn found(&self, f: &mut Formatter<'_>, found: Found) -> Result {
+        if let Some(target) = found.target {
+            self.target(f, target)?;
+            f.write_str(", ")?;
+        }
+        found.place.fmt(f)
     }
 
     fn refusal(&self, f: &mut Formatter<'_>, refusal: Refusal) -> Result {

@@ -23,7 +23,7 @@ pub const NOT_REMOVED: u32 = 1004;
 /// The same: its log could not get a line, or could not be removed.
 pub const NOT_LOGGED: u32 = 1005;
 
-/// A row: the thirteen places of `read_row`, in their order.
+/// A row: places 0 to 12 of `read_row`, in their order. Place 13 is no part of it, since it follows from the store.
 pub type Row = [u64; 13];
 
 /// One write of a commit, by what it does to the state.

@@ -121,9 +121,19 @@ impl State {
 
     /// What a name reads: its loose target, else its packed value.
     pub fn read(&self, name: usize) -> Option<Target> {
-        match self.loose[name] {
-            Some(Loose::Value(target)) => Some(target),
-            _ => self.packed[name].map(Target::Object),
+        self.find(name, true).0
+    }
+
+    /// The value of a name and the number of the place where it is found, by a reader that sees packed values or does not: 1 loose,
+    /// 2 packed, 3 packed behind a broken loose value, 4 absent, 5 absent behind a broken loose value.
+    pub fn find(&self, name: usize, sees_packed: bool) -> (Option<Target>, u64) {
+        let packed = self.packed[name].filter(|_| sees_packed).map(Target::Object);
+        match (self.loose[name], packed) {
+            (Some(Loose::Value(target)), _) => (Some(target), 1),
+            (None, Some(_)) => (packed, 2),
+            (Some(Loose::Broken), Some(_)) => (packed, 3),
+            (None, None) => (None, 4),
+            (Some(Loose::Broken), None) => (None, 5),
         }
     }
 }

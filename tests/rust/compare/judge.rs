@@ -1,8 +1,8 @@
 //! The comparison of one case: both sides answer it, and every number, extra, row, lock, value and line must be the same.
 
-use crate::answer::{Answer, Prepared, Reply, NO_LAYOUT};
+use crate::answer::{Answer, Prepared, Reply, Row, NO_LAYOUT};
 use crate::archive;
-use crate::case::{Case, End, Target};
+use crate::case::{Case, End, State, Target};
 use crate::conflicts;
 use crate::differences::{self, Stage};
 use crate::image::{self, Transaction};
@@ -125,7 +125,7 @@ fn compare(case: &Case, rust: &Answer, care: Care) -> Outcome {
     let Some(prepared) = &rust.prepared else { return Ok(()) };
     compare_stops(case, prepared, &prepared_region)?;
     if care == Care::Reads {
-        compare_rows(prepared, &prepared_region)?;
+        compare_rows(case, prepared, &prepared_region)?;
         compare_reads(case, prepared, &after)?;
     }
     Ok(())
@@ -168,20 +168,43 @@ fn compare_stops(case: &Case, prepared: &Prepared, region: &[u8]) -> Outcome {
     Ok(())
 }
 
-fn compare_rows(prepared: &Prepared, region: &[u8]) -> Outcome {
+/// The rows, read by calls. gix-ref has no number for where a row's value was found. What is compared is that place 13 fits what the
+/// Rust's files held before, and whether its prepare opened the packed table: then it holds the table's lock. The value found so must be
+/// the one that the Rust's row took for its expected value. Reading the row's name sees packed values all the same.
+fn compare_rows(case: &Case, prepared: &Prepared, region: &[u8]) -> Outcome {
+    let before = &case.store.state;
     for (place, row) in prepared.rows.iter().enumerate() {
-        let read = archive::read_row(region, place);
-        if read.number != 0 || read.places[..13] != row[..] || read.places[13..] != [0; 3] {
-            return Err((Stage::Prepare, format!("row {place} reads {read:?}")));
+        let name = row[0] as usize;
+        let (value, found) = before.find(name, prepared.ours_packed);
+        if value.map(|target| Target::numbers(Some(target))) != taken(row) {
+            return Err((Stage::Prepare, format!("row {place} of the Rust did not take {value:?}, which is at place {found}")));
         }
+        let read = archive::read_row(region, place);
+        let rest = [found, 0, 0];
+        if read.number != 0 || read.places[..13] != row[..] || read.places[13..] != rest {
+            return Err((Stage::Prepare, format!("row {place} reads {read:?}, and its value was found at place {found}")));
+        }
+        compare_name(Stage::Prepare, before, name, region)?;
     }
     same_reply(Stage::Prepare, &Reply::new(22, &[]), archive::read_row(region, prepared.rows.len()))
 }
 
+/// What a row found, which took the place of its expected value: kind and number.
+fn taken(row: &Row) -> Option<[u64; 2]> {
+    (row[5] == 3).then_some([row[6], row[7]])
+}
+
+/// A name, read by a call. gix-ref has no number for the place of a value: what is compared is that it fits what the files hold.
+fn compare_name(stage: Stage, state: &State, name: usize, region: &[u8]) -> Outcome {
+    let (value, found) = state.find(name, true);
+    let [kind, number] = Target::numbers(value);
+    same_reply(stage, &Reply::new(0, &[kind, number, found]), archive::read_name(region, name))
+}
+
+/// The names and their lines, read by calls after the end: they are as in the files that the Rust left.
 fn compare_reads(case: &Case, prepared: &Prepared, region: &[u8]) -> Outcome {
     for name in 0..case.store.names.len() {
-        let value = Target::numbers(prepared.after.read(name));
-        same_reply(Stage::End, &Reply::new(0, &value), archive::read_name(region, name))?;
+        compare_name(Stage::End, &prepared.after, name, region)?;
         let lines = prepared.after.lines.iter().filter(|line| line.name == name);
         let mut count = 0;
         for (place, line) in lines.enumerate() {

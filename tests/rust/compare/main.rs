@@ -15,6 +15,7 @@ mod judge;
 mod mended;
 mod named;
 mod original;
+mod places;
 mod product;
 mod random;
 mod record;
@@ -39,6 +40,7 @@ fn main() {
         ["differences"] => runs::differences(&site).fine(),
         ["git", count, seed] => runs::git(&site, number(count), number(seed)).is_some_and(|tally| tally.fine()),
         ["named"] => runs::named(&site).fine(),
+        ["places"] => runs::fine(&runs::places(&site)),
         ["random", count, seed] => runs::random(&site, number(count), number(seed)).fine(),
         ["share", part] => runs::share(&site, number(part)),
         ["quick"] => runs::quick(&site),
@@ -58,7 +60,7 @@ fn main() {
 
 fn usage() -> ! {
     eprintln!("usage: compare all COUNT SEED | share PART | record FILE | check FILE | replay FILE");
-    eprintln!("       compare git COUNT SEED | differences | named | quick | random COUNT SEED");
+    eprintln!("       compare git COUNT SEED | differences | named | places | quick | random COUNT SEED");
     eprintln!("       compare crossed STRIDE | singles STRIDE | doubles STRIDE | nested STRIDE | speed");
     std::process::exit(2)
 }

@@ -9,6 +9,7 @@ use crate::doubles;
 use crate::git::{self, Git};
 use crate::judge::Care;
 use crate::named::{self, Named};
+use crate::places;
 use crate::product::NESTED;
 use crate::random;
 use crate::record;
@@ -36,6 +37,7 @@ pub fn share(site: &Site, part: u64) -> bool {
 /// One of each `stride` exhaustive cases, and so many random ones without and with git. It ends with 'N passed, M failed'.
 fn some(site: &Site, stride: u64, count: u64, with_git: u64, seed: u64) -> bool {
     let mut tallies = vec![differences(site), named(site)];
+    tallies.extend(places(site));
     tallies.extend(crossed(site, stride));
     tallies.extend(singles(site, stride));
     tallies.push(doubles(site, stride));
@@ -64,7 +66,8 @@ fn recorded(site: &Site) -> Tally {
 /// As little as shows that a change to the Rust is noticed. It ends with the first part that notices it.
 pub fn quick(site: &Site) -> bool {
     let flat = || fine(&singles(site, 211)) && doubles(site, 211).fine();
-    named(site).fine() && flat() && fine(&nested(site, 499)) && random(site, 1_000, 1).fine()
+    let first = || named(site).fine() && fine(&places(site));
+    first() && flat() && fine(&nested(site, 499)) && random(site, 1_000, 1).fine()
 }
 
 /// One of each `stride` cases with one edit, of the product of all lists: a tally for each pair of names.
@@ -147,6 +150,21 @@ pub fn named(site: &Site) -> Tally {
         check_named(&mut tally, &second, &rust, known);
     }
     tally.report("by name", began);
+    tally
+}
+
+/// The cases of where values are found: a tally for each mode, in which every place must be met.
+pub fn places(site: &Site) -> Vec<Tally> {
+    [1, 2, 3].map(|mode| places_in(site, mode)).into()
+}
+
+fn places_in(site: &Site, mode: u8) -> Tally {
+    let (mut tally, began) = (Tally::default(), Instant::now());
+    places::with(mode, &mut |case| {
+        tally.try_case(site, case, Care::Reads);
+    });
+    tally.expect_places();
+    tally.report(&format!("where values are found, mode {mode}"), began);
     tally
 }
 

@@ -25,6 +25,10 @@ pub struct Tally {
     ends: BTreeMap<u32, u64>,
     most_rows: usize,
     most_writes: usize,
+    /// How often each of the five places of a value was compared: with names after the end, and with rows.
+    places: [[u64; 5]; 2],
+    /// With how many of these rows a packed value was not seen, since the packed table was not opened.
+    unseen: u64,
 }
 
 impl Tally {
@@ -34,6 +38,9 @@ impl Tally {
         let (rust, verdict) = judge::judge(site, case, care);
         self.cases += 1;
         self.note(&rust);
+        if care == Care::Reads && matches!(verdict, Verdict::Same) {
+            self.note_places(case, &rust);
+        }
         (rust, self.count(site, case, verdict))
     }
 
@@ -73,6 +80,27 @@ impl Tally {
             *self.ends.entry(prepared.end.number).or_default() += 1;
             self.most_rows = self.most_rows.max(prepared.rows.len());
             self.most_writes = self.most_writes.max(prepared.steps.len());
+        }
+    }
+
+    fn note_places(&mut self, case: &Case, rust: &Answer) {
+        let Some(prepared) = &rust.prepared else { return };
+        let [of_names, of_rows] = &mut self.places;
+        for name in 0..case.store.names.len() {
+            of_names[prepared.after.find(name, true).1 as usize - 1] += 1;
+        }
+        for row in &prepared.rows {
+            let find = |sees_packed| case.store.state.find(row[0] as usize, sees_packed).1;
+            let found = find(prepared.ours_packed);
+            of_rows[found as usize - 1] += 1;
+            self.unseen += u64::from(found != find(true));
+        }
+    }
+
+    /// Says so if one of the five places was never compared, with names and with rows, or no row that does not see a packed value.
+    pub fn expect_places(&mut self) {
+        if self.places.iter().flatten().any(|count| *count == 0) || self.unseen == 0 {
+            self.fail(&format!("of the places some were not met: {:?}, {} unseen", self.places, self.unseen));
         }
     }
 
@@ -131,6 +159,11 @@ impl Tally {
         if !self.prepares.is_empty() {
             println!("  known differences {:?}; prepare's numbers {:?}", self.known, self.prepares);
             println!("  the end's numbers {:?}; at most {} rows and {} writes", self.ends, self.most_rows, self.most_writes);
+        }
+        let [of_names, of_rows] = &self.places;
+        if of_names.iter().any(|count| *count > 0) {
+            let unseen = self.unseen;
+            println!("  places 1 to 5 of names {of_names:?}, of rows {of_rows:?}; {unseen} rows do not see a packed value");
         }
     }
 }

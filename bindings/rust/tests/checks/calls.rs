@@ -68,18 +68,19 @@ fn loads() {
     let mut store = done(Store::open(&mut region));
     let largest = object(u64::MAX);
     done(store.load_loose(AISLE, largest));
-    same(store.read_name(AISLE), Ok(Some(largest)));
+    same(store.read_name(AISLE), loose(largest));
     done(store.load_loose(HEAD, link(AISLE)));
-    same(store.read_name(HEAD), Ok(Some(link(AISLE))));
+    same(store.read_name(HEAD), loose(link(AISLE)));
     let three = ObjectNumber::new(3).unwrap();
     done(store.load_packed(AISLE, three));
-    same(store.read_name(AISLE), Ok(Some(largest)));
-    for loose in [Loose::Broken, Loose::None, None.into()] {
-        done(store.load_loose(AISLE, loose));
-        same(store.read_name(AISLE), Ok(Some(three.into())));
+    same(store.read_name(AISLE), loose(largest));
+    let behind = Place::PackedBehindBroken;
+    for (value, place) in [(Loose::Broken, behind), (Loose::None, Place::Packed), (None.into(), Place::Packed)] {
+        done(store.load_loose(AISLE, value));
+        same(store.read_name(AISLE), found(object(3), place));
     }
     done(store.load_packed(AISLE, None));
-    same(store.read_name(AISLE), Ok(None));
+    same(store.read_name(AISLE), absent());
     refused(store.read_name(NOBODYS), NOT_THERE);
     refused(store.load_loose(NOBODYS, Loose::None), NOT_THERE);
     refused(store.load_loose(HEAD, link(NOBODYS)), NOT_THERE);
@@ -138,8 +139,8 @@ fn prepare_values() {
     refuses(&mut store, &twice, Refusal::MultipleEdits { name: AISLE });
     let nothing = Refusal::DeleteReferenceMustExist { name: tag };
     refuses(&mut store, &[RefEdit::delete(tag, MustExist)], nothing);
-    let found = Refusal::MustNotExist { name: AISLE, actual: object(5), new: link(tag) };
-    refuses(&mut store, &[RefEdit::update(AISLE, MustNotExist, link(tag))], found);
+    let there = Refusal::MustNotExist { name: AISLE, actual: object(5), new: link(tag) };
+    refuses(&mut store, &[RefEdit::update(AISLE, MustNotExist, link(tag))], there);
     let missing = Refusal::MustExist { name: tag, expected: None };
     refuses(&mut store, &[RefEdit::update(tag, MustExist, object(6))], missing);
     let missing = Refusal::MustExist { name: tag, expected: Some(link(HEAD)) };
@@ -170,7 +171,7 @@ fn prepare_beneath() {
     // Direct rows write no loose value, and packed values play no part.
     same(done(done(store.prepare(&list(&both[..1]), remove)).commit(planner())).writes(), 3);
     same(done(done(store.prepare(&list(&both), remove)).commit(planner())).writes(), 2);
-    same((store.read_name(AISLE), store.read_name(shelf)), (Ok(Some(object(6))), Ok(Some(object(6)))));
+    same((store.read_name(AISLE), store.read_name(shelf)), (found(object(6), Place::Packed), found(object(6), Place::Packed)));
 }
 
 /// The refusals that locks, links and a prepared transaction give.
@@ -221,10 +222,10 @@ fn commit() {
     let outcome = prepare(&mut store, Some(planner()), 2);
     same((outcome, outcome.number()), (Outcome::UsedUp { writes: 2 }, 17));
     check(!outcome.all_written(), "not all written");
-    same(store.read_name(AISLE), Ok(None));
+    same(store.read_name(AISLE), absent());
     let outcome = prepare(&mut store, Some(planner()), 3);
     same((outcome, outcome.number(), outcome.all_written()), (Outcome::AllWritten { writes: 3 }, 0, true));
-    same(store.read_name(AISLE), Ok(Some(object(7))));
+    same(store.read_name(AISLE), loose(object(7)));
     lines_are(&store, HEAD, &[[0, 7, 1, 3], [0, 7, 1, 3]]);
     refused(store.read_line(NOBODYS, 0), NOT_THERE);
     refused(store.read_line(HEAD, 2), Refusal::NothingThere);
@@ -241,13 +242,14 @@ fn rows() {
     let log = LogChange { mode: RefLog::AndReference, force_create_reflog: true, message: Message(513) };
     let edit = RefEdit::update_with(log, HEAD, expected, object(7)).through_links();
     let transaction = done(store.prepare(&list(&[edit]), MODE));
-    let found = PreviousValue::MustExistAndMatch(link(AISLE));
+    let there = PreviousValue::MustExistAndMatch(link(AISLE));
     let only = LogChange { mode: RefLog::Only, ..log };
-    let change = Change::Update { log: only, expected: found, new: object(7) };
-    let row = Row { name: HEAD, change, parent: None, leaf_previous: Some(ObjectNumber::new(5).unwrap()) };
-    same(transaction.store().read_row(0), Ok(row));
+    let change = Change::Update { log: only, expected: there, new: object(7) };
+    let leaf_previous = Some(ObjectNumber::new(5).unwrap());
+    same(transaction.store().read_row(0), Ok(Row { name: HEAD, change, parent: None, leaf_previous, found: Place::Loose }));
     let change = Change::Update { log, expected, new: object(7) };
-    same(transaction.store().read_row(1), Ok(Row { name: AISLE, change, parent: Some(0), leaf_previous: None }));
+    let row = Row { name: AISLE, change, parent: Some(0), leaf_previous: None, found: Place::Loose };
+    same(transaction.store().read_row(1), Ok(row));
     refused(transaction.store().read_row(2), Refusal::NothingThere);
     same(transaction.rollback(), Ok(2));
     let removal = RefEdit { change: Change::Delete { expected: ANY, log: RefLog::Only }, name: AISLE, deref: false };

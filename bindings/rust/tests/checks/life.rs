@@ -34,7 +34,7 @@ fn dropped() {
     check(unwound.is_err() && *store.region() == before, "and where a panic passes through");
     let outcome = done(done(store.prepare(&some_list(), MODE)).commit(planner()));
     same(outcome, Outcome::AllWritten { writes: 3 });
-    same(store.read_name(AISLE), Ok(Some(object(7))));
+    same(store.read_name(AISLE), loose(object(7)));
 }
 
 /// A commit that is stopped is over, and so is one that was left prepared once the store has ended it.

@@ -7,6 +7,7 @@ mod dice;
 mod edits;
 mod life;
 mod marked;
+mod places;
 mod plain;
 mod record;
 mod same;
@@ -23,12 +24,13 @@ fn run(part: &str, all: impl FnOnce() + std::panic::UnwindSafe) {
 
 fn main() {
     let numbers: Vec<u64> = std::env::args().skip(1).filter_map(|word| word.parse().ok()).collect();
-    let parts: [(&str, fn()); 6] = [
+    let parts: [(&str, fn()); 7] = [
         ("calls", calls::all),
         ("edits", edits::all),
         ("life", life::all),
         ("words", words::all),
         ("marked", marked::all),
+        ("places", places::all),
         ("settings", settings::all),
     ];
     let mut before = 0;

@@ -25,7 +25,7 @@ fn reads_at_stops(region: &Region, edit: RefEdit, name: NameNumber, count: u64) 
         let outcome = done(done(store.prepare(&list(&[edit]), MODE)).commit_within(planner(), allowance));
         let stopped = Outcome::UsedUp { writes: allowance };
         same(outcome, if allowance == count { Outcome::AllWritten { writes: count } } else { stopped });
-        values.push(done(store.read_name(name)));
+        values.push(done(store.read_name(name)).target);
     }
     values
 }
@@ -38,17 +38,17 @@ fn updates() {
     let transaction = done(store.prepare(&list(&[through_head(7)]), MODE));
     let rows: Vec<_> = transaction.store().rows().collect();
     let log = |mode| LogChange { mode, force_create_reflog: false, message: Message(3) };
-    let found = PreviousValue::MustExistAndMatch(link(AISLE));
-    let first = Change::Update { log: log(RefLog::Only), expected: found, new: object(7) };
+    let there = PreviousValue::MustExistAndMatch(link(AISLE));
+    let first = Change::Update { log: log(RefLog::Only), expected: there, new: object(7) };
     let second = Change::Update { log: log(RefLog::AndReference), expected: ANY, new: object(7) };
-    let row = |name, change, parent| Row { name, change, parent, leaf_previous: None };
-    same(rows, vec![row(HEAD, first, None), row(AISLE, second, Some(0))]);
+    let row = |name, change, parent, found| Row { name, change, parent, leaf_previous: None, found };
+    same(rows, vec![row(HEAD, first, None, Place::Loose), row(AISLE, second, Some(0), Place::Absent)]);
     drop(transaction);
     writes(&mut store, &[through_head(7)], 2, 3);
     lines_are(&store, HEAD, &[[0, 7, 1, 3]]);
     lines_are(&store, AISLE, &[[0, 7, 1, 3]]);
-    same(store.read_name(HEAD), Ok(Some(link(AISLE))));
-    same(store.read_name(AISLE), Ok(Some(object(7))));
+    same(store.read_name(HEAD), loose(link(AISLE)));
+    same(store.read_name(AISLE), loose(object(7)));
     writes(&mut store, &[through_head(9)], 2, 3);
     lines_are(&store, HEAD, &[[0, 7, 1, 3], [7, 9, 1, 3]]);
     lines_are(&store, AISLE, &[[0, 7, 1, 3], [7, 9, 1, 3]]);
@@ -87,7 +87,7 @@ fn hops() {
     for n in 0..5 {
         lines_are(&store, NameNumber(n), &[[5, 7, 1, 3]]);
     }
-    same(store.read_name(NameNumber(4)), Ok(Some(object(7))));
+    same(store.read_name(NameNumber(4)), loose(object(7)));
     let mut region = chain(5);
     refused(done(Store::open(&mut region)).prepare(&list(&[through_head(7)]), MODE), Refusal::ReferenceCycle);
     let mut region = marked();

@@ -20,6 +20,8 @@ struct Pair {
     transactions: u64,
     children: u64,
     leaves: u64,
+    /// The places of values, with the call that gave each.
+    places: BTreeMap<(&'static str, u64), u64>,
 }
 
 /// Which of the calls on a region.
@@ -58,6 +60,7 @@ impl Pair {
             transactions: 0,
             children: 0,
             leaves: 0,
+            places: BTreeMap::new(),
         }
     }
 
@@ -74,9 +77,11 @@ impl Pair {
         match step {
             Step::Start(_) | Step::StartWith(_) => self.names = 0,
             Step::AddName(_) => self.names = self.names.max(plain.1[0] as u16 + 1),
+            Step::ReadName(_) => *self.places.entry(("read_name", plain.1[2])).or_default() += 1,
             Step::ReadRow(_) => {
                 self.children += plain.1[10];
                 self.leaves += u64::from(plain.1[12] != 0);
+                *self.places.entry(("read_row", plain.1[13])).or_default() += 1;
             }
             _ => (),
         }
@@ -340,6 +345,11 @@ pub fn all(calls: u64, seed: u64) {
     }
     for (kind, &done) in pair.done.iter().enumerate() {
         check(done > calls / 2000, &format!("call {kind} was done {done} times"));
+    }
+    println!("same: places {:?}", pair.places);
+    for call in ["read_name", "read_row"] {
+        let met = (1..=5).filter(|&place| pair.places.contains_key(&(call, place)));
+        check(met.count() == 5, &format!("each of the five places was met by {call}"));
     }
     for (what, count) in [("transactions", pair.transactions), ("children", pair.children), ("leaves", pair.leaves)] {
         println!("same: {count} {what}");

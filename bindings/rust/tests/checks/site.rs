@@ -20,6 +20,21 @@ pub fn planner() -> Committer {
     Committer::new(1).unwrap()
 }
 
+/// What reading a name gives.
+pub fn found(target: impl Into<Option<Target>>, place: Place) -> Result<Found, Refusal> {
+    Ok(Found { target: target.into(), place })
+}
+
+/// The same where the loose value is this target.
+pub fn loose(target: Target) -> Result<Found, Refusal> {
+    found(target, Place::Loose)
+}
+
+/// The same where the name has no value at all.
+pub fn absent() -> Result<Found, Refusal> {
+    found(None, Place::Absent)
+}
+
 /// A region with setting normal and these names.
 pub fn site(names: &[&str]) -> Box<Region> {
     let mut region = Box::new([0; REGION_SIZE]);

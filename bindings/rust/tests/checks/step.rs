@@ -198,7 +198,10 @@ pub fn read(step: &Step, view: View<'_>) -> Reply {
         Step::NameBytes(name) => reply(view.name_bytes(NameNumber(*name)), |bytes| {
             vec![(bytes.as_ptr() as usize - view.region().as_ptr() as usize) as u64, bytes.len() as u64]
         }),
-        Step::ReadName(name) => reply(view.read_name(NameNumber(*name)), |value| parts(value).into()),
+        Step::ReadName(name) => reply(view.read_name(NameNumber(*name)), |found| {
+            let [kind, number] = parts(found.target);
+            vec![kind, number, place_number(found.place)]
+        }),
         Step::ReadLine(name, at) => reply(view.read_line(NameNumber(*name), *at), |line| {
             let previous = line.previous.map_or(0, ObjectNumber::get);
             vec![previous, line.new.get(), line.committer.get(), line.message.get()]
@@ -223,6 +226,17 @@ fn parts(target: Option<Target>) -> [u64; 2] {
         None => [0, 0],
         Some(Target::Object(object)) => [1, object.get()],
         Some(Target::Symbolic(name)) => [2, name.get()],
+    }
+}
+
+/// The number of a place, written here from docs/SPEC.md.
+pub fn place_number(place: Place) -> u64 {
+    match place {
+        Place::Loose => 1,
+        Place::Packed => 2,
+        Place::PackedBehindBroken => 3,
+        Place::Absent => 4,
+        Place::AbsentBehindBroken => 5,
     }
 }
 
@@ -260,6 +274,6 @@ fn row_places(row: Row) -> Vec<u64> {
     places.extend(parts(expected.target()));
     places.extend(parts(new));
     places.extend([u64::from(row.parent.is_some()), row.parent.unwrap_or(0)]);
-    places.push(row.leaf_previous.map_or(0, ObjectNumber::get));
+    places.extend([row.leaf_previous.map_or(0, ObjectNumber::get), place_number(row.found)]);
     places
 }

@@ -1,4 +1,4 @@
-//! Refusals, targets and outcomes in words.
+//! Refusals, targets, places and outcomes in words.
 
 use crate::site::*;
 use crate::tally::*;
@@ -103,6 +103,28 @@ fn others() {
     same(error.to_string(), "the bytes are no name".to_string());
 }
 
+/// A place in words; and what was found, with its value before it where there is one.
+fn places() {
+    let mut region = marked();
+    let store = done(Store::open(&mut region));
+    let words = ["loose", "packed", "packed behind a broken loose", "absent", "absent behind a broken loose"];
+    for (place, words) in PLACES.into_iter().zip(words) {
+        same(place.to_string(), words.to_string());
+        let nothing = Found { target: None, place };
+        same(nothing.to_string(), words.to_string());
+        same(nothing.in_words(&store).to_string(), words.to_string());
+        let seven = Found { target: Some(object(7)), place };
+        same(seven.to_string(), format!("object 7, {words}"));
+        same(seven.in_words(&store).to_string(), format!("object 7, {words}"));
+    }
+    let linked = done(store.read_name(HEAD));
+    same(linked.to_string(), "a link to name 1, loose".to_string());
+    same(linked.in_words(&store).to_string(), "a link to refs/heads/aisle, loose".to_string());
+}
+
+/// Every place, in the order of its number.
+const PLACES: [Place; 5] = [Place::Loose, Place::Packed, Place::PackedBehindBroken, Place::Absent, Place::AbsentBehindBroken];
+
 /// Every refusal that has a number of docs/SPEC.md's table.
 fn every() -> Vec<Refusal> {
     let (name, target) = (AISLE, object(1));
@@ -156,6 +178,10 @@ fn header() {
     for outcome in [Outcome::NoCommitter { writes: 0 }, Outcome::UsedUp { writes: 0 }] {
         same(value(&in_capitals(&format!("{outcome:?}"))), Some(outcome.number()));
     }
+    for (place, number) in PLACES.into_iter().zip(1..) {
+        same(value(&format!("PLACE_{}", in_capitals(&format!("{place:?}")))), Some(number));
+        same(place as u32, number);
+    }
     same(value("DONE"), Some(Outcome::AllWritten { writes: 0 }.number()));
     same(every().len(), 24);
     same(value("REGION_SIZE"), Some(REGION_SIZE as u32));
@@ -174,4 +200,5 @@ pub fn all() {
     refusals();
     without_names();
     others();
+    places();
 }
