@@ -36,6 +36,12 @@ static void load(const char *name, uint64_t kind, uint64_t number)
     must_be_done(dehlbazin_load_loose(region, sizeof region, to, kind, number, answer, sizeof answer), name);
 }
 
+static void load_packed(const char *name, uint64_t layout)
+{
+    uint64_t to = number_of(name);
+    must_be_done(dehlbazin_load_packed(region, sizeof region, to, DEHLBAZIN_KIND_OBJECT, layout, answer, sizeof answer), name);
+}
+
 /* A name's bytes stand in the region, and no 0 ends them: %.*s takes their length and where they begin. */
 struct bytes {
     int length;
@@ -63,13 +69,38 @@ static void print_target(uint64_t kind, uint64_t number)
     }
 }
 
+static const char *words_of(uint64_t found)
+{
+    switch (found) {
+    case DEHLBAZIN_PLACE_LOOSE:
+        return "loose";
+    case DEHLBAZIN_PLACE_PACKED:
+        return "packed";
+    case DEHLBAZIN_PLACE_PACKED_BEHIND_BROKEN:
+        return "packed behind a broken loose";
+    case DEHLBAZIN_PLACE_ABSENT:
+        return "absent";
+    case DEHLBAZIN_PLACE_ABSENT_BEHIND_BROKEN:
+        return "absent behind a broken loose";
+    default:
+        return "in a place that is not known";
+    }
+}
+
+/* The value and its place, which shows where a layout is old since a newer one is broken. Of no value the place says all. */
 static void print_value(const char *name)
 {
-    uint64_t number = number_of(name);
+    uint64_t number = number_of(name), kind, value, found;
     must_be_done(dehlbazin_read_name(region, sizeof region, number, answer, sizeof answer), name);
+    kind = place(DEHLBAZIN_READ_NAME_KIND);
+    value = place(DEHLBAZIN_READ_NAME_NUMBER);
+    found = place(DEHLBAZIN_READ_NAME_PLACE);
     printf("%-20s ", name);
-    print_target(place(DEHLBAZIN_READ_NAME_KIND), place(DEHLBAZIN_READ_NAME_NUMBER));
-    printf("\n");
+    if (kind != DEHLBAZIN_KIND_NONE) {
+        print_target(kind, value);
+        printf(", ");
+    }
+    printf("%s\n", words_of(found));
 }
 
 /* Numbers in an edit list are big-endian. */
@@ -167,7 +198,8 @@ static void print_log(const char *name)
 
 int main(void)
 {
-    static const char *const names[] = {"HEAD", "refs/heads/aisle-7", "refs/heads/aisle-8", "refs/heads/aisle-9"};
+    static const char *const names[] = {"HEAD", "refs/heads/aisle-7", "refs/heads/aisle-8", "refs/heads/aisle-9",
+                                        "refs/heads/aisle-10"};
     const struct move first[] = {{"HEAD", 4102, 4103}};
     const struct move second[] = {{"HEAD", 4103, 4104}, {"refs/heads/aisle-8", UINT64_MAX, 4104}};
     const uint64_t planner = 12;
@@ -177,10 +209,11 @@ int main(void)
     must_be_done(dehlbazin_start(region, sizeof region, DEHLBAZIN_SETTING_NORMAL, answer, sizeof answer), "start");
     load("refs/heads/aisle-7", DEHLBAZIN_KIND_OBJECT, 4102);
     load("refs/heads/aisle-8", DEHLBAZIN_KIND_OBJECT, UINT64_MAX); /* every 64-bit number but 0 is a layout */
-    load("refs/heads/aisle-9", DEHLBAZIN_KIND_NONE, 0);
+    load_packed("refs/heads/aisle-9", 4090);
+    load("refs/heads/aisle-9", DEHLBAZIN_KIND_BROKEN, 0); /* a newer layout was there, and cannot be read any more */
     load("HEAD", DEHLBAZIN_KIND_LINK, number_of("refs/heads/aisle-7"));
     printf("%-20s %s\n", "aisle", "value");
-    for (i = 0; i < 4; i++)
+    for (i = 0; i < sizeof names / sizeof *names; i++)
         print_value(names[i]);
 
     prepare(first, 1);

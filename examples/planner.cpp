@@ -24,9 +24,11 @@ static void print(std::string_view name, const std::string &text)
     std::printf("%-20.*s %s\n", int(name.size()), name.data(), text.c_str());
 }
 
+// The value and its place, which shows where a layout is old since a newer one is broken. Of no value the place says all.
 static void print_value(Store &store, std::string_view name)
 {
-    print(name, in_words(store, store.read_name(store.add_name(name).value()).value()));
+    const Found found = store.read_name(store.add_name(name).value()).value();
+    print(name, (found.target ? in_words(store, found.target) + ", " : "") + to_string(found.place));
 }
 
 // A move: through the links of a name, from one layout to another, and not if something else than the first is there.
@@ -68,11 +70,12 @@ static void plan()
     const Layout largest{UINT64_MAX}; // every 64-bit number but 0 is a layout
     store.load_loose(aisle7, Target::object(Layout{4102})).value();
     store.load_loose(aisle8, Target::object(largest)).value();
-    store.load_loose(aisle9, Loose::none()).value();
+    store.load_packed(aisle9, Layout{4090}).value();
+    store.load_loose(aisle9, Loose::broken()).value(); // a newer layout was there, and cannot be read any more
     store.load_loose(head, Target::link(aisle7)).value();
 
     print("aisle", "value");
-    for (const char *name : {"HEAD", "refs/heads/aisle-7", "refs/heads/aisle-8", "refs/heads/aisle-9"})
+    for (const char *name : {"HEAD", "refs/heads/aisle-7", "refs/heads/aisle-8", "refs/heads/aisle-9", "refs/heads/aisle-10"})
         print_value(store, name);
 
     make(store, {move(head, Layout{4102}, Layout{4103})}, every_write);

@@ -35,10 +35,10 @@
 #include <stdint.h>
 
 /* ---- the version of this interface: of this header and of the archive's entries. Each part is below 1000, so that a later
- * version is a greater number: 0.6.0 is 6000, and 1.2.3 would be 1002003. #if can test it. */
+ * version is a greater number: 0.7.0 is 7000, and 1.2.3 would be 1002003. #if can test it. */
 
 #define DEHLBAZIN_VERSION_MAJOR 0
-#define DEHLBAZIN_VERSION_MINOR 6
+#define DEHLBAZIN_VERSION_MINOR 7
 #define DEHLBAZIN_VERSION_PATCH 0
 #define DEHLBAZIN_VERSION                                                                                                    \
     (DEHLBAZIN_VERSION_MAJOR * 1000000 + DEHLBAZIN_VERSION_MINOR * 1000 + DEHLBAZIN_VERSION_PATCH)
@@ -100,6 +100,16 @@
 #define DEHLBAZIN_KIND_OBJECT 1
 #define DEHLBAZIN_KIND_LINK 2
 #define DEHLBAZIN_KIND_BROKEN 3
+
+/* ---- where a value was found, or that none was, as reading a name and reading a row answer it. Reading a name always sees what
+ * is packed. Prepare sees it only if it opened the packed table, and a row says what prepare saw. A packed value that is not seen
+ * counts as none. */
+
+#define DEHLBAZIN_PLACE_LOOSE 1                /* the loose value is an object or a link; what is packed does not matter */
+#define DEHLBAZIN_PLACE_PACKED 2               /* there is no loose value, and an object is packed */
+#define DEHLBAZIN_PLACE_PACKED_BEHIND_BROKEN 3 /* the loose value is broken, and an object is packed */
+#define DEHLBAZIN_PLACE_ABSENT 4               /* there is no loose value, and nothing is packed */
+#define DEHLBAZIN_PLACE_ABSENT_BEHIND_BROKEN 5 /* the loose value is broken, and nothing is packed */
 
 /* ---- packing modes of a transaction */
 
@@ -175,6 +185,7 @@
 
 #define DEHLBAZIN_READ_NAME_KIND 0
 #define DEHLBAZIN_READ_NAME_NUMBER 1
+#define DEHLBAZIN_READ_NAME_PLACE 2
 
 #define DEHLBAZIN_READ_LINE_PREVIOUS 0
 #define DEHLBAZIN_READ_LINE_NEW 1
@@ -194,6 +205,7 @@
 #define DEHLBAZIN_READ_ROW_HAS_PARENT 10
 #define DEHLBAZIN_READ_ROW_PARENT 11
 #define DEHLBAZIN_READ_ROW_LEAF_PREVIOUS 12
+#define DEHLBAZIN_READ_ROW_FOUND 13
 
 #define DEHLBAZIN_READ_SETTINGS_LOG 0
 #define DEHLBAZIN_READ_SETTINGS_MODE 1
@@ -359,9 +371,10 @@ uint32_t dehlbazin_commit(uint8_t *region, size_t region_len, uint64_t committer
  * places: 0 how many rows were given up. */
 uint32_t dehlbazin_rollback(uint8_t *region, size_t region_len, uint8_t *answer, size_t answer_len);
 
-/* Reads a name: its loose target, else its packed value, else nothing.
+/* Reads a name: its loose target, else its packed value, else nothing. And says where that was found.
  * refused: 3 no such name (place 0 the number).
- * places: 0 the kind, none, object or link; 1 the number beside it. */
+ * places: 0 the kind, none, object or link; 1 the number beside it; 2 where it was found, DEHLBAZIN_PLACE_.., with packed values
+ * seen. The kind is none exactly if that is DEHLBAZIN_PLACE_ABSENT or DEHLBAZIN_PLACE_ABSENT_BEHIND_BROKEN. */
 uint32_t dehlbazin_read_name(const uint8_t *region, size_t region_len, uint64_t name, uint8_t *answer, size_t answer_len);
 
 /* Reads a line of a name's log.
@@ -376,7 +389,10 @@ uint32_t dehlbazin_read_line(const uint8_t *region, size_t region_len, uint64_t 
  * refused: 22 there is no row there, or nothing is prepared.
  * places: 0 name; 1 kind, DEHLBAZIN_ROW_..; 2 log, DEHLBAZIN_LOG_..; 3 force, 0 or 1; 4 message; 5 what is expected,
  * DEHLBAZIN_EXPECTED_..; 6 and 7 the expected target's kind and number; 8 and 9 the new target's; 10 whether it has a
- * parent, 0 or 1; 11 the place of the parent's row; 12 leaf-previous, 0 where there is none. */
+ * parent, 0 or 1; 11 the place of the parent's row; 12 leaf-previous, 0 where there is none; 13 where prepare found the value of
+ * the row's name, DEHLBAZIN_PLACE_.., with packed values seen only if it opened the packed table, whose lock is ours then. Where it
+ * did not, as with rows of the log only, a name that has nothing but a packed value is absent here, while dehlbazin_read_name finds
+ * it packed. The place stays the same as long as the transaction is prepared. */
 uint32_t dehlbazin_read_row(const uint8_t *region, size_t region_len, uint64_t place, uint8_t *answer, size_t answer_len);
 
 /* ---- the calls of the settings record. Their refusals come in the order in which they stand. */

@@ -143,6 +143,24 @@ private:
     uint64_t kind_, number_;
 };
 
+// Where a value was found, or that none was.
+enum class Place : uint8_t {
+    loose = DEHLBAZIN_PLACE_LOOSE,
+    packed = DEHLBAZIN_PLACE_PACKED,
+    packed_behind_broken = DEHLBAZIN_PLACE_PACKED_BEHIND_BROKEN, // the loose value is broken, and an object is packed
+    absent = DEHLBAZIN_PLACE_ABSENT,
+    absent_behind_broken = DEHLBAZIN_PLACE_ABSENT_BEHIND_BROKEN, // the loose value is broken, and nothing is packed
+};
+
+// What a name reads, and where that was found.
+struct Found {
+    std::optional<Target> target; // none exactly if the place is one of the two that are absent
+    Place place;
+
+    friend constexpr bool operator==(const Found &x, const Found &y) { return x.target == y.target && x.place == y.place; }
+    friend constexpr bool operator!=(const Found &x, const Found &y) { return !(x == y); }
+};
+
 // What an edit expects to find, and what a row found.
 class Expected {
 public:
@@ -201,6 +219,7 @@ struct Row {
     std::optional<Target> next;     // none of a delete
     std::optional<uint64_t> parent; // the place of the row that it came from, which is an earlier one
     std::optional<ObjectNumber> leaf_previous;
+    Place found; // where prepare found the name's value, with packed values seen only if it opened the packed table
 };
 
 // How a commit ended that was not refused. Where it was stopped, what it wrote until then stays.
@@ -269,6 +288,8 @@ struct Answer {
     {
         return place(i) == 0 ? std::nullopt : std::optional<ObjectNumber>(ObjectNumber(place(i)));
     }
+    // Where a value was found, by its number in one place.
+    Place found_in(size_t i) const { return Place(place(i)); }
 };
 
 // A reason's name, and what it says of the name that comes with it, or of nothing in particular.
@@ -314,6 +335,23 @@ inline const Word &word_of(uint32_t number)
     if (number == DEHLBAZIN_SHORT_BUFFER)
         return short_buffer;
     return number < std::size(words) ? words[number] : unknown;
+}
+
+inline const char *words_of(Place place)
+{
+    switch (place) {
+    case Place::loose:
+        return "loose";
+    case Place::packed:
+        return "packed";
+    case Place::packed_behind_broken:
+        return "packed behind a broken loose";
+    case Place::absent:
+        return "absent";
+    case Place::absent_behind_broken:
+        return "absent behind a broken loose";
+    }
+    return "in a place that this header does not know";
 }
 
 } // namespace detail
@@ -865,11 +903,12 @@ public:
         });
     }
 
-    // What a name reads; none where it reads nothing.
-    Result<std::optional<Target>> read_name(NameNumber name) const
+    // What a name reads, and where that was found. Packed values are always seen.
+    Result<Found> read_name(NameNumber name) const
     {
-        return detail::given(ask(dehlbazin_read_name, name.number()),
-                             [](const detail::Answer &answer) { return answer.target(DEHLBAZIN_READ_NAME_KIND); });
+        return detail::given(ask(dehlbazin_read_name, name.number()), [](const detail::Answer &answer) {
+            return Found{answer.target(DEHLBAZIN_READ_NAME_KIND), answer.found_in(DEHLBAZIN_READ_NAME_PLACE)};
+        });
     }
 
     // A line of a name's log, the oldest at place 0.
@@ -918,7 +957,8 @@ private:
                    Expected(answer.place(DEHLBAZIN_READ_ROW_EXPECTED), answer.target(DEHLBAZIN_READ_ROW_EXPECTED_KIND)),
                    answer.target(DEHLBAZIN_READ_ROW_NEW_KIND),
                    parent,
-                   answer.object(DEHLBAZIN_READ_ROW_LEAF_PREVIOUS)};
+                   answer.object(DEHLBAZIN_READ_ROW_LEAF_PREVIOUS),
+                   answer.found_in(DEHLBAZIN_READ_ROW_FOUND)};
     }
 };
 
@@ -1223,6 +1263,11 @@ struct Speaker {
             return "a link to " + name(*target->link());
         return "object " + std::to_string(target->number());
     }
+    std::string found(const Found &found) const
+    {
+        const std::string place = words_of(found.place);
+        return found.target ? target(found.target) + ", " + place : place;
+    }
     std::string refusal(const Refusal &refusal) const
     {
         const std::string says = word_of(refusal.number()).says;
@@ -1257,6 +1302,13 @@ inline std::string to_string(const std::optional<Target> &target, const View &st
 {
     return detail::Speaker{&store}.target(target);
 }
+
+// "packed behind a broken loose".
+inline std::string to_string(Place place) { return detail::words_of(place); }
+
+// "object 9, packed", "a link to HEAD, loose", "absent".
+inline std::string to_string(const Found &found) { return detail::Speaker{}.found(found); }
+inline std::string to_string(const Found &found, const View &store) { return detail::Speaker{&store}.found(found); }
 
 // "3 writes", or "stopped after 3 writes: the allowance is used up".
 inline std::string to_string(const Outcome &outcome)

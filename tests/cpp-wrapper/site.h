@@ -49,11 +49,12 @@ struct Site {
         }
         return all;
     }
-    void reads(NameNumber name, const std::optional<Target> &value, AT_CALLER) const
+    void reads(NameNumber name, const std::optional<Target> &value, Place place, AT_CALLER) const
     {
-        const auto read = store.read_name(name);
+        const Result<Found> read = store.read_name(name);
         done(read, at);
-        check(read && *read.get() == value, "reads " + to_string(read ? *read.get() : std::nullopt), at);
+        if (read)
+            check(read.get()->target == value && read.get()->place == place, "reads " + to_string(*read.get()), at);
     }
 
     Region region{};

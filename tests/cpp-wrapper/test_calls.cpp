@@ -3,6 +3,8 @@
 #include "site.h"
 
 #include <cstring>
+#include <type_traits>
+#include <utility>
 
 static const NameNumber nobodys{65536};
 
@@ -79,17 +81,17 @@ static void test_loads()
 {
     Site site({"HEAD", "refs/heads/aisle"});
     done(site.store.load_loose(aisle, object(UINT64_MAX)));
-    site.reads(aisle, object(UINT64_MAX));
+    site.reads(aisle, object(UINT64_MAX), Place::loose);
     done(site.store.load_loose(head, link(aisle)));
-    site.reads(head, link(aisle));
+    site.reads(head, link(aisle), Place::loose);
     done(site.store.load_packed(aisle, ObjectNumber(3)));
-    site.reads(aisle, object(UINT64_MAX));
+    site.reads(aisle, object(UINT64_MAX), Place::loose);
     done(site.store.load_loose(aisle, Loose::broken()));
-    site.reads(aisle, object(3));
+    site.reads(aisle, object(3), Place::packed_behind_broken);
     done(site.store.load_loose(aisle, Loose::none()));
-    site.reads(aisle, object(3));
+    site.reads(aisle, object(3), Place::packed);
     done(site.store.load_packed(aisle, std::nullopt));
-    site.reads(aisle, std::nullopt);
+    site.reads(aisle, std::nullopt, Place::absent);
     refused(site.store.read_name(nobodys), Reason::not_registered, {65536});
     refused(site.store.load_loose(nobodys, Loose::none()), Reason::not_registered, {65536});
     refused(site.store.load_loose(head, link(nobodys)), Reason::not_registered, {65536});
@@ -220,10 +222,10 @@ static void test_commit()
     Outcome outcome = store.prepare(list).value().commit(Committer(12), Allowance(2)).value();
     check(outcome.end == Outcome::End::used_up && outcome.number() == 17 && outcome.writes == 2, "two writes, and used up");
     check(!outcome.all_written(), "not all written");
-    site.reads(aisle, std::nullopt);
+    site.reads(aisle, std::nullopt, Place::absent);
     outcome = store.prepare(list).value().commit(Committer(12), Allowance(3)).value();
     check(outcome.all_written() && outcome.number() == 0 && outcome.writes == 3, "three writes are all");
-    site.reads(aisle, object(7));
+    site.reads(aisle, object(7), Place::loose);
     check(site.lines(head) == std::vector<std::vector<uint64_t>>{{0, 7, 12, 3}, {0, 7, 12, 3}}, "HEAD's lines");
     refused(store.read_line(nobodys, 0), Reason::not_registered, {65536});
     refused(store.read_line(head, 2), Reason::nothing_there);
@@ -243,6 +245,7 @@ static void test_rows()
     check(row.name == head && row.is_update && row.log_only && row.force && row.message == Message(513), "HEAD's row");
     check(row.expected == Expected::must_exist_and_match(link(aisle)) && row.next == object(7), "it found the link");
     check(!row.parent && row.leaf_previous == ObjectNumber(5), "and behind it object 5");
+    check(row.found == Place::loose && child.found == Place::loose, "both are loose");
     check(child.name == aisle && child.is_update && !child.log_only && child.force && child.message == Message(513),
           "its child");
     check(child.expected == expected && child.next == object(7) && child.parent == uint64_t(0) && !child.leaf_previous,
@@ -252,6 +255,57 @@ static void test_rows()
     const auto removal = site.store.prepare(list_of({Delete(aisle).log_only()}));
     const Row removed = site.store.read_row(0).value();
     check(!removed.is_update && removed.log_only && !removed.force && !removed.next, "a delete's row");
+}
+
+static_assert(std::is_same_v<std::underlying_type_t<Place>, uint8_t>);
+static_assert(uint8_t(Place::loose) == 1 && uint8_t(Place::packed) == 2 && uint8_t(Place::packed_behind_broken) == 3);
+static_assert(uint8_t(Place::absent) == 4 && uint8_t(Place::absent_behind_broken) == 5);
+static_assert(std::is_same_v<decltype(std::declval<const View &>().read_name(head)), Result<Found>>);
+static_assert(std::is_same_v<decltype(Found::target), std::optional<Target>> && std::is_same_v<decltype(Found::place), Place>);
+static_assert(std::is_same_v<decltype(Row::found), Place>);
+
+static constexpr Found packed_three{Target::object(ObjectNumber(3)), Place::packed};
+static_assert(packed_three == Found{Target::object(ObjectNumber(3)), Place::packed});
+static_assert(packed_three != Found{Target::object(ObjectNumber(3)), Place::packed_behind_broken});
+static_assert(packed_three != Found{Target::object(ObjectNumber(4)), Place::packed});
+static_assert(Found{std::nullopt, Place::absent} != Found{std::nullopt, Place::absent_behind_broken});
+
+// The aisle's values, what it reads and where, and where a row of the log alone finds it, which does not see what is packed.
+struct Kept {
+    Loose loose;
+    std::optional<ObjectNumber> packed;
+    std::optional<Target> target;
+    Place seen, unseen;
+};
+
+// The five places, of a name and of a row, in each mode.
+static void test_places()
+{
+    const ObjectNumber three(3);
+    const Kept all[] = {
+        {object(5), std::nullopt, object(5), Place::loose, Place::loose},
+        {object(5), three, object(5), Place::loose, Place::loose},
+        {link(head), three, link(head), Place::loose, Place::loose},
+        {Loose::none(), three, object(3), Place::packed, Place::absent},
+        {Loose::broken(), three, object(3), Place::packed_behind_broken, Place::absent_behind_broken},
+        {Loose::none(), std::nullopt, std::nullopt, Place::absent, Place::absent},
+        {Loose::broken(), std::nullopt, std::nullopt, Place::absent_behind_broken, Place::absent_behind_broken},
+    };
+    Site site({"HEAD", "refs/heads/aisle"});
+    for (Mode mode : {Mode::deletions, Mode::updates, Mode::updates_remove_loose})
+        for (const Kept &kept : all) {
+            done(site.store.load_loose(aisle, kept.loose));
+            done(site.store.load_packed(aisle, kept.packed));
+            site.reads(aisle, kept.target, kept.seen);
+            for (bool log_only : {false, true}) {
+                const Update update(aisle, object(9));
+                const auto transaction = site.store.prepare(list_of({log_only ? update.log_only() : update}), mode);
+                done(transaction);
+                const Place found = site.store.read_row(0).value().found;
+                check(found == (log_only ? kept.unseen : kept.seen), "a row finds it " + to_string(found));
+                site.reads(aisle, kept.target, kept.seen);
+            }
+        }
 }
 
 void test_calls()
@@ -266,4 +320,5 @@ void test_calls()
     test_log_full();
     test_commit();
     test_rows();
+    test_places();
 }

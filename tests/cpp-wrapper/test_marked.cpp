@@ -23,10 +23,9 @@ static void writes(Store &store, std::initializer_list<Edit> edits, uint64_t row
 }
 
 // What can be read after each number of writes that an edit is allowed; every time from the same store.
-static std::vector<std::optional<Target>> reads_at_stops(const Region &region, const Edit &edit, NameNumber name,
-                                                         uint64_t count)
+static std::vector<Found> reads_at_stops(const Region &region, const Edit &edit, NameNumber name, uint64_t count)
 {
-    std::vector<std::optional<Target>> values;
+    std::vector<Found> values;
     for (uint64_t allowance = 0; allowance <= count; allowance++) {
         Region copy = region;
         Store store = Store::open(copy).value();
@@ -46,14 +45,15 @@ static void test_updates()
         const Row first = site.store.read_row(0).value(), second = site.store.read_row(1).value();
         check(first.name == head && first.log_only && !first.parent, "P1: row 0 is log-only");
         check(second.name == aisle && !second.log_only && second.parent == uint64_t(0), "P1: row 1 is its child");
+        check(first.found == Place::loose && second.found == Place::absent, "P1: row 0 found its link, row 1 nothing");
     }
     const auto stops = reads_at_stops(site.region, through_head(7), aisle, 3);
-    check(stops == std::vector<std::optional<Target>>{std::nullopt, std::nullopt, std::nullopt, object(7)},
-          "P1: the value comes last");
+    const Found absent{std::nullopt, Place::absent}, seven{object(7), Place::loose};
+    check(stops == std::vector<Found>{absent, absent, absent, seven}, "P1: the value comes last");
     writes(site.store, {through_head(7)}, 2, 3);
     check(site.lines(head) == Lines{{0, 7, 1, 3}} && site.lines(aisle) == Lines{{0, 7, 1, 3}}, "P1: lines");
-    site.reads(aisle, object(7));
-    site.reads(head, link(aisle));
+    site.reads(aisle, object(7), Place::loose);
+    site.reads(head, link(aisle), Place::loose);
     writes(site.store, {through_head(9)}, 2, 3);
     const Lines both = {{0, 7, 1, 3}, {7, 9, 1, 3}};
     check(site.lines(head) == both && site.lines(aisle) == both, "P2: both lines 7 to 9");
@@ -94,7 +94,7 @@ static void test_hops()
         writes(site.store, {through_head(7)}, 5, 6);
         for (uint64_t n = 0; n < 5; n++)
             check(site.lines(NameNumber(n)) == Lines{{5, 7, 1, 3}}, "P5: a line of each");
-        site.reads(NameNumber(4), object(7));
+        site.reads(NameNumber(4), object(7), Place::loose);
     });
     chain(5, [](Site &site) { refused(site.store.prepare(list_of({through_head(7)})), Reason::reference_cycle); });
     Marked site;
@@ -121,7 +121,8 @@ static void test_both_values()
     done(site.store.load_packed(aisle, ObjectNumber(3)));
     done(site.store.load_loose(aisle, object(5)));
     const auto stops = reads_at_stops(site.region, Delete(aisle), aisle, 2);
-    check(stops == std::vector<std::optional<Target>>{object(5), object(5), std::nullopt}, "P10: never 3");
+    const Found absent{std::nullopt, Place::absent}, five{object(5), Place::loose};
+    check(stops == std::vector<Found>{five, five, absent}, "P10: never 3");
 }
 
 // P11: a log-only update alone, of a name that has a packed value only.

@@ -185,6 +185,7 @@ struct Pair {
     Typed typed;
     Known known;
     Tally numbers, done;
+    Tally name_places, row_places; // where the calls that read found values
 
     Pair() : typed(started()) {}
 
@@ -200,6 +201,10 @@ struct Pair {
         last = plain.number;
         if (!refused())
             done.given[size_t(step.op)]++;
+        if (!refused() && step.op == Op::read_name)
+            name_places.add(uint32_t(plain.places[DEHLBAZIN_READ_NAME_PLACE]));
+        if (!refused() && step.op == Op::read_row)
+            row_places.add(uint32_t(plain.places[DEHLBAZIN_READ_ROW_FOUND]));
     }
     void turn_over(size_t at, uint8_t bits)
     {
@@ -235,6 +240,8 @@ void test_same(size_t calls, uint64_t seed)
             pair.turn_over(at, bits);
     }
     pair.numbers.all_met("the calls", {0, 1, 2, 3, 4, 6, 7, 8, 9, 10, 11, 12, 13, 15, 16, 17, 18, 20, 21, 22, 23, 24, 25});
+    pair.name_places.all_met("the places of names", {1, 2, 3, 4, 5});
+    pair.row_places.all_met("the places of rows", {1, 2, 4, 5}); // 3 is too rare to be asked for
     for (size_t op = 0; op < OPS; op++)
         check(pair.done.given[op] > calls / 2000,
               "call " + std::to_string(op) + " was done " + std::to_string(pair.done.given[op]) + " times");

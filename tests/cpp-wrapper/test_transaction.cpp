@@ -26,7 +26,7 @@ static void test_scope()
         Transaction transaction = site.store.prepare(some_list()).value();
         check(transaction.commit(Committer(1)).value().all_written() && !transaction.prepared(), "committed");
     }
-    site.reads(aisle, object(7));
+    site.reads(aisle, object(7), Place::loose);
 }
 
 static void test_end()
@@ -91,7 +91,7 @@ static void test_moves()
     refused(site.store.read_row(0), Reason::bad_region);
     check(transaction.commit(Committer(1)).value().writes == 3, "which is committed there");
     site.store = std::move(moved);
-    site.reads(aisle, object(7));
+    site.reads(aisle, object(7), Place::loose);
 }
 
 // A store that ends before its transaction takes that with it, since the region may end with the store.

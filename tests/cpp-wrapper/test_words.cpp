@@ -1,4 +1,4 @@
-// Refusals, targets and outcomes in words.
+// Refusals, targets, places and outcomes in words.
 #include "parts.h"
 #include "site.h"
 
@@ -74,6 +74,26 @@ static void test_others()
     says(to_string(Outcome{Outcome::End::no_committer, 0}), "stopped after 0 writes: a log line has no committer");
 }
 
+// A value is said with its place, and of none the place alone.
+static void test_places()
+{
+    Marked site;
+    says(to_string(Place::loose), "loose");
+    says(to_string(Place::packed), "packed");
+    says(to_string(Place::packed_behind_broken), "packed behind a broken loose");
+    says(to_string(Place::absent), "absent");
+    says(to_string(Place::absent_behind_broken), "absent behind a broken loose");
+    says(to_string(Place(6)), "in a place that this header does not know"); // of a later archive
+    says(to_string(Found{object(7), Place::packed_behind_broken}), "object 7, packed behind a broken loose");
+    says(to_string(Found{object(7), Place::packed}, site.store), "object 7, packed");
+    says(to_string(Found{std::nullopt, Place::absent}), "absent");
+    says(to_string(Found{std::nullopt, Place::absent_behind_broken}, site.store), "absent behind a broken loose");
+    const Found found = site.store.read_name(head).value();
+    says(to_string(found), "a link to name 1, loose");
+    says(to_string(found, site.store), "a link to refs/heads/aisle, loose");
+    says(to_string(site.store.read_name(aisle).value()), "absent");
+}
+
 // The names of the numbers are those of dehlbazin.h, which is read here as text: '#define DEHLBAZIN_BAD_NAME 18' makes 18 bad_name.
 static void test_names_of_numbers()
 {
@@ -104,5 +124,6 @@ void test_words()
 {
     test_refusals();
     test_others();
+    test_places();
     test_names_of_numbers();
 }

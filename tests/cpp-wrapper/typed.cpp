@@ -20,6 +20,24 @@ static void put(Places &places, const std::optional<Target> &target)
     places.push_back(!target ? 0 : target->is_link() ? target->link()->number() : target->object()->number());
 }
 
+// The numbers of docs/ABI.md, written down a second time.
+static uint64_t number_of(Place place)
+{
+    switch (place) {
+    case Place::loose:
+        return 1;
+    case Place::packed:
+        return 2;
+    case Place::packed_behind_broken:
+        return 3;
+    case Place::absent:
+        return 4;
+    case Place::absent_behind_broken:
+        return 5;
+    }
+    return 0; // no call answers so
+}
+
 // A refusal's places, from what it says of itself. The raw ones must say the same.
 static Reply refusal_of(const Refusal &refusal)
 {
@@ -160,6 +178,7 @@ static Places places_of(const Row &row)
     places.push_back(row.parent.has_value());
     places.push_back(row.parent.value_or(0));
     places.push_back(row.leaf_previous ? row.leaf_previous->number() : 0);
+    places.push_back(number_of(row.found));
     return places;
 }
 
@@ -176,9 +195,10 @@ Reply Typed::read(const Step &step)
         });
     if (step.op == Op::read_row)
         return reply_of(store_.read_row(step.a), places_of);
-    return reply_of(store_.read_name(NameNumber(step.a)), [](const std::optional<Target> &target) {
+    return reply_of(store_.read_name(NameNumber(step.a)), [](const Found &found) {
         Places places;
-        put(places, target);
+        put(places, found.target);
+        places.push_back(number_of(found.place));
         return places;
     });
 }

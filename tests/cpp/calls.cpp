@@ -113,7 +113,7 @@ static Answer rollback(Store &store)
 static Answer read_name(const Entry &entry)
 {
     Value value = reading(entry);
-    return answer(0, {value.kind, value.number});
+    return answer(0, {value.kind, value.number, reading_place(entry)});
 }
 
 static Answer read_line(const Store &store, uint64_t name, uint64_t place)
@@ -124,6 +124,8 @@ static Answer read_line(const Store &store, uint64_t name, uint64_t place)
     return answer(22);
 }
 
+// Where R3 found the value is not kept. It is found there still: while a transaction is prepared, no call changes a value, or what
+// opens the packed table.
 static Answer read_row(const Store &store, uint64_t place)
 {
     if (place >= store.rows.size())
@@ -131,7 +133,7 @@ static Answer read_row(const Store &store, uint64_t place)
     const Row &row = store.rows[place];
     return answer(0, {row.name, row.kind, row.log_only, row.force, row.message, row.expected, row.expected_target.kind,
                       row.expected_target.number, row.new_target.kind, row.new_target.number, row.has_parent, row.parent,
-                      row.leaf_previous});
+                      row.leaf_previous, reading_place(store.entries[row.name], opens_packed(store))});
 }
 
 static bool takes_name(Op op)

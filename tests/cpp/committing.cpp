@@ -37,6 +37,13 @@ static std::vector<uint64_t> allowances(uint64_t writes)
     return all;
 }
 
+// What the rows' names read there, and where it is found, is what our own store says.
+static void reads_names(World &stopped, const std::vector<Row> &rows, const At &at)
+{
+    for (const Row &row : rows)
+        stopped.agrees(call::read_name(row.name), at);
+}
+
 static void stops_of(uint64_t committer, const Store &prepared, Led led, const std::string &what, const At &at)
 {
     std::optional<Demand3> demand3;
@@ -52,6 +59,8 @@ static void stops_of(uint64_t committer, const Store &prepared, Led led, const s
         if (demand3)
             demand3->look(world.region(), world.number() == 0, where, at);
         check(is_good(world.store()), where + ": our own store breaks a rule", at);
+        if (committer == 1)
+            reads_names(world, prepared.rows, at);
     }
 }
 
@@ -60,6 +69,8 @@ void stops_everywhere(const Store &prepared, Led led, const std::string &what, A
     for (uint64_t committer : {1, 0, 65535})
         stops_of(committer, prepared, led, what, at);
     World world(prepared);
+    for (size_t place = 0; place < prepared.rows.size(); place++)
+        world.agrees(call::read_row(place), at);
     for (uint64_t committer : {uint64_t(65536), LARGEST})
         for (uint64_t allowance : {uint64_t(0), LARGEST})
             world.gives(call::commit(committer, allowance), 2, {}, at);

@@ -15,5 +15,6 @@ enum class Led { by_calls, by_nothing };
 
 // The store is committed with every allowance from 0 to one more than there are writes, and with the largest, for committers 1, 0
 // and 65,535 each. The archive does what our own store does, and the counts that it answers fit together. If calls led to the
-// store, demand 3 is judged at each stop. Committers past 65,535 are refused.
+// store, demand 3 is judged at each stop. Each row reads as in our own store, and so does its name at each stop of the first
+// committer. Committers past 65,535 are refused.
 void stops_everywhere(const Store &prepared, Led led, const std::string &what, AT_CALLER);

@@ -3,17 +3,21 @@
 #include "dehlbazin.h"
 #include "entries.h"
 
+#include <algorithm>
+
 static const Value ABSENT = {};
 
 // ---- what the archive reads
 
+// The value alone, its kind and its number: where it was found is no part of what demand 3 speaks of.
 static Value read_by_archive(const Lent &region, size_t name)
 {
     uint8_t answer[DEHLBAZIN_ANSWER_SIZE];
     uint32_t number = run(call::read_name(name), region.data(), region.size(), answer, sizeof answer);
     if (number != DEHLBAZIN_DONE)
         return {BROKEN, number}; // no name reads so
-    return {uint8_t(dehlbazin_place(answer, DEHLBAZIN_READ_NAME_KIND)), dehlbazin_place(answer, DEHLBAZIN_READ_NAME_NUMBER)};
+    const uint64_t kind = dehlbazin_place(answer, DEHLBAZIN_READ_NAME_KIND);
+    return {uint8_t(std::min(kind, uint64_t(255))), dehlbazin_place(answer, DEHLBAZIN_READ_NAME_NUMBER)}; // 255 is no kind
 }
 
 static std::vector<Value> read_all(const Lent &region, size_t names)

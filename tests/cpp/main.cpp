@@ -44,6 +44,7 @@ int main(int count, char **words)
     part("prepare_turns", test_prepare_turns);
     part("prepare_kept", test_prepare_kept);
     part("prepare_room", test_prepare_room);
+    part("places", test_places);
     part("beneath", test_beneath);
     part("beneath_regions", test_beneath_regions);
     part("commit_writes", test_commit_writes);

@@ -13,15 +13,6 @@ static uint16_t topmost_name(const std::vector<Row> &rows, size_t place)
     return rows[place].name;
 }
 
-// What the name reads, where packed values may not be seen.
-static Value reading_of(const Entry &entry, bool opened)
-{
-    Entry seen = entry;
-    if (!opened)
-        seen.packed = 0;
-    return reading(seen);
-}
-
 // The refusals with their places. A target takes two of them.
 static Answer must_not_exist(const Row &row, const Value &there)
 {
@@ -76,7 +67,7 @@ static Answer take_turn(const Store &store, std::vector<Row> &rows, size_t place
 {
     Row &row = rows[place];
     const Entry &entry = store.entries[row.name];
-    Value there = reading_of(entry, opened);
+    Value there = reading(entry, opened);
     if (conflicts.refuse(row, there))
         return answer(25, {row.name});
     if (entry.lock == FOREIGN)

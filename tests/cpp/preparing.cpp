@@ -1,6 +1,17 @@
 #include "preparing.h"
 
-static std::vector<uint64_t> places_of(const Row &row)
+// What the row found, as it is stated, says whether a packed value was seen: so the place follows from it and the loose value
+// alone, and not from our own store's test of what opens the packed table.
+static uint8_t place_of(const Entry &entry, const Row &row)
+{
+    if (entry.loose.kind == OBJECT || entry.loose.kind == LINK)
+        return PLACE_LOOSE;
+    if (existing(row) != Value{})
+        return entry.loose.kind == BROKEN ? PLACE_PACKED_BEHIND_BROKEN : PLACE_PACKED;
+    return entry.loose.kind == BROKEN ? PLACE_ABSENT_BEHIND_BROKEN : PLACE_ABSENT;
+}
+
+static std::vector<uint64_t> places_of(const Store &store, const Row &row)
 {
     return {row.name,
             row.kind,
@@ -14,7 +25,8 @@ static std::vector<uint64_t> places_of(const Row &row)
             row.new_target.number,
             row.has_parent,
             row.parent,
-            row.leaf_previous};
+            row.leaf_previous,
+            place_of(store.entries[row.name], row)};
 }
 
 // A world compares every byte of the region with our own store after each call, so here our own store is all that is looked at.
@@ -34,7 +46,7 @@ void prepares(const Store &store, const std::vector<Edit> &edits, uint8_t mode, 
     take_locks(stated);
     is_now(world, stated, "our own store has not the rows that the check states, or not their locks", at);
     for (size_t place = 0; place < rows.size(); place++)
-        world.gives(call::read_row(place), 0, places_of(rows[place]), at);
+        world.gives(call::read_row(place), 0, places_of(store, rows[place]), at);
     world.gives(call::read_row(rows.size()), 22, {}, at);
     world.gives(call::rollback(), 0, {rows.size()}, at);
     is_now(world, store, "rollback does not leave the store from before", at);

@@ -207,6 +207,26 @@ Store prepared_in(uint8_t mode)
     return s;
 }
 
+Store unopened()
+{
+    Store s;
+    s.setting = 1;
+    s.mode = 2;
+    s.entries = {
+        {"HEAD", link(1), 0, FREE},
+        {"refs/heads/aisle", {}, 5, FREE},
+        {"refs/tags/spring", {BROKEN, 0}, 9, FREE},
+        {"refs/heads/old", {BROKEN, 0}, 0, FREE},
+        {"refs/heads/both", object(4), 3, FREE},
+        {"refs/heads/new", {}, 0, FREE},
+    };
+    s.rows = {log_only(found(update(0, object(8)), link(1))), log_only(update(2, object(8))), log_only(deletion(3)),
+              log_only(found(deletion(4), object(4))), child_of(0, log_only(update(1, object(8))))};
+    s.packed_lock = FOREIGN;
+    take_locks(s);
+    return s;
+}
+
 // The bytes of '.', 'o' and '-' are one bit from that of '/', and no value is one bit from a link to name 0.
 Store nested()
 {

@@ -16,6 +16,10 @@ Store prepared();
 // log-only, and an update that is log-only. What is kept and opened depends on the mode.
 Store prepared_in(uint8_t mode);
 
+// A transaction in mode 2 whose rows are of the log only, one of them a child. What is packed is not seen: the packed table is not
+// opened, and another holds its lock.
+Store unopened();
+
 // Names above and beneath others, with packed values or none where another's loose value forbids a loose one. A bit turned over
 // makes such a value, or a '/' of another byte. Nothing is prepared.
 Store nested();

@@ -60,11 +60,24 @@ static bool logs_by_itself(uint8_t setting, std::string_view name)
 
 // ---- values
 
-Value reading(const Entry &entry)
+Value reading(const Entry &entry, bool sees_packed)
 {
     if (entry.loose.kind == OBJECT || entry.loose.kind == LINK)
         return entry.loose;
-    return entry.packed != 0 ? object(entry.packed) : Value{};
+    return sees_packed && entry.packed != 0 ? object(entry.packed) : Value{};
+}
+
+uint8_t reading_place(const Entry &entry, bool sees_packed)
+{
+    const bool packed = sees_packed && entry.packed != 0;
+    switch (entry.loose.kind) {
+    case NONE:
+        return packed ? PLACE_PACKED : PLACE_ABSENT;
+    case BROKEN:
+        return packed ? PLACE_PACKED_BEHIND_BROKEN : PLACE_ABSENT_BEHIND_BROKEN;
+    default:
+        return PLACE_LOOSE;
+    }
 }
 
 static bool is_good_target(const Store &store, const Value &value)

@@ -19,6 +19,15 @@ enum : uint8_t { FREE = 0, FOREIGN = 1, OURS = 2 };
 enum : uint8_t { UPDATE = 1, DELETE = 2 };
 enum : uint8_t { ANY = 0, MUST_EXIST = 1, MUST_NOT_EXIST = 2, MUST_EXIST_AND_MATCH = 3, EXISTING_MUST_MATCH = 4 };
 
+// Where a value is found, or that none is.
+enum : uint8_t {
+    PLACE_LOOSE = 1,
+    PLACE_PACKED = 2,
+    PLACE_PACKED_BEHIND_BROKEN = 3,
+    PLACE_ABSENT = 4,
+    PLACE_ABSENT_BEHIND_BROKEN = 5,
+};
+
 // A loose value, or a target that may be missing. Only a loose value is broken.
 struct Value {
     uint8_t kind = NONE;
@@ -76,8 +85,9 @@ bool is_packable(std::string_view name);
 // A name lies beneath another if it begins with that one and a '/'. The other is then above it.
 bool is_beneath(std::string_view name, std::string_view above);
 
-// What a name reads.
-Value reading(const Entry &entry);
+// What a name reads, and where that is found. Where R3 reads, the packed value is seen only if the packed table is opened.
+Value reading(const Entry &entry, bool sees_packed = true);
+uint8_t reading_place(const Entry &entry, bool sees_packed = true);
 
 // What was there when the row was prepared.
 Value existing(const Row &row);

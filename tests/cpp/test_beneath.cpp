@@ -225,12 +225,12 @@ static void test_two_transactions()
     stands_back(world, to_object(A_B));
     moves(world, {deleting(A)}, 1);
     moves(world, {to_object(A_B)}, 1);
-    world.gives(call::read_name(A), 0, {NONE, 0});
-    world.gives(call::read_name(A_B), 0, {OBJECT, 7});
+    world.gives(call::read_name(A), 0, {NONE, 0, PLACE_ABSENT});
+    world.gives(call::read_name(A_B), 0, {OBJECT, 7, PLACE_LOOSE});
     stands_back(world, to_object(A));
     moves(world, {deleting(A_B)}, 1);
     moves(world, {to_object(A)}, 1);
-    world.gives(call::read_name(A), 0, {OBJECT, 7});
+    world.gives(call::read_name(A), 0, {OBJECT, 7, PLACE_LOOSE});
     stands_back(world, deleting(A_B));
 }
 
@@ -256,8 +256,8 @@ static Store loose_above_packed()
     world.gives(call::prepare(write_list({to_object(A_B)}), 3), 0, {1});
     world.gives(call::commit(0, ~uint64_t(0)), 0, {1});
     moves(world, {updating(A, object(6))}, 1);
-    world.gives(call::read_name(A), 0, {OBJECT, 6});
-    world.gives(call::read_name(A_B), 0, {OBJECT, 7});
+    world.gives(call::read_name(A), 0, {OBJECT, 6, PLACE_LOOSE});
+    world.gives(call::read_name(A_B), 0, {OBJECT, 7, PLACE_PACKED});
     return world.store();
 }
 
@@ -275,9 +275,9 @@ static void test_loose_above_packed()
     packed_too.gives(call::commit(0, ~uint64_t(0)), 0, {2});
     for (World *world : {&deleted, &taken_away, &packed_too}) {
         moves(*world, {updating(A_B, object(8))}, 1);
-        world->gives(call::read_name(A_B), 0, {OBJECT, 8});
+        world->gives(call::read_name(A_B), 0, {OBJECT, 8, PLACE_LOOSE});
         moves(*world, {deleting(A_B)}, 2);
-        world->gives(call::read_name(A_B), 0, {NONE, 0});
+        world->gives(call::read_name(A_B), 0, {NONE, 0, PLACE_ABSENT});
     }
 }
 

@@ -40,7 +40,8 @@ static void test_refused()
             if (committer > 65535)
                 for (uint64_t allowance : {uint64_t(0), uint64_t(1), uint64_t(65536), ALL})
                     world.gives(call::commit(committer, allowance), 2);
-    world.gives(call::read_row(3), 0, {3, 2, 0, 0, 0, 4, OBJECT, 0x0102030405060708, NONE, 0, 0, 0, 0});
+    world.gives(call::read_row(3), 0,
+                {3, 2, 0, 0, 0, 4, OBJECT, 0x0102030405060708, NONE, 0, 0, 0, 0, PLACE_ABSENT_BEHIND_BROKEN});
     world.gives(call::lock_name(0), 20);
     world.gives(call::load_loose(5, OBJECT, 1), 15);
     world.gives(call::commit(65535, ALL), 0, {5});
@@ -66,9 +67,12 @@ static void test_no_committer()
     auto stops = [&](uint64_t allowance, uint32_t number, uint64_t writes) {
         World world(store);
         world.gives(call::commit(0, allowance), number, {writes});
-        world.gives(call::read_name(0), 0, {writes > 0 ? OBJECT : NONE, writes > 0 ? 5u : 0u});
+        if (writes > 0)
+            world.gives(call::read_name(0), 0, {OBJECT, 5, PLACE_LOOSE});
+        else
+            world.gives(call::read_name(0), 0, {NONE, 0, PLACE_ABSENT});
         for (uint64_t name : {1, 2, 3}) {
-            world.gives(call::read_name(name), 0, {NONE, 0});
+            world.gives(call::read_name(name), 0, {NONE, 0, PLACE_ABSENT});
             world.gives(call::read_line(name, 0), 22);
         }
     };
@@ -112,9 +116,9 @@ static void test_after()
         world.gives(call::load_loose(3, LINK, 2), 0);
         world.gives(call::prepare(write_list(edits), 2), 0, {3});
         world.agrees(call::commit(2, ALL));
-        world.gives(call::read_name(0), 0, {OBJECT, 5});
-        world.gives(call::read_name(1), 0, {NONE, 0});
-        world.gives(call::read_name(2), 0, {OBJECT, 6});
+        world.gives(call::read_name(0), 0, {OBJECT, 5, PLACE_LOOSE});
+        world.gives(call::read_name(1), 0, {NONE, 0, PLACE_ABSENT});
+        world.gives(call::read_name(2), 0, {OBJECT, 6, PLACE_LOOSE});
         world.gives(call::read_line(2, 0), 0, {0, 6, allowance == 0 ? 2u : 1u, 0});
         world.gives(call::read_line(2, 1), 22);
     }
@@ -140,7 +144,7 @@ static void test_foreign()
         world.gives(call::lock_name(name), 20);
     world.gives(call::lock_name(1), 0);
     world.gives(call::load_loose(0, NONE, 0), 0);
-    world.gives(call::read_name(0), 0, {OBJECT, 5}); // packed, though its lock was dropped
+    world.gives(call::read_name(0), 0, {OBJECT, 5, PLACE_PACKED}); // though its lock was dropped
 
     store.packed_lock = FOREIGN;
     store.entries[1].packed = 9;
@@ -182,12 +186,15 @@ static void test_most_writes()
     for (uint64_t allowance : {uint64_t(0), uint64_t(80), uint64_t(160), uint64_t(161), uint64_t(162), uint64_t(320)}) {
         World world(store);
         world.gives(call::commit(1, allowance), 17, {allowance});
-        world.gives(call::read_name(0), 0, {OBJECT, allowance < 162 ? 5u : 7u});
+        if (allowance < 162)
+            world.gives(call::read_name(0), 0, {OBJECT, 5, PLACE_LOOSE});
+        else
+            world.gives(call::read_name(0), 0, {OBJECT, 7, PLACE_PACKED});
     }
     World world(store);
     world.gives(call::commit(1, 321), 0, {321});
-    world.gives(call::read_name(158), 0, {OBJECT, 7});
-    world.gives(call::read_name(159), 0, {NONE, 0});
+    world.gives(call::read_name(158), 0, {OBJECT, 7, PLACE_PACKED});
+    world.gives(call::read_name(159), 0, {NONE, 0, PLACE_ABSENT});
 }
 
 void test_commit_stops()

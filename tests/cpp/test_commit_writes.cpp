@@ -149,7 +149,7 @@ static void test_counting()
     world.gives(call::prepare(write_list(edits), 3), 0, {32});
     world.gives(call::commit(0, 1), 0, {1});
     for (const auto &[name, number] : objects)
-        world.gives(call::read_name(name), 0, {OBJECT, number});
+        world.gives(call::read_name(name), 0, {OBJECT, number, PLACE_PACKED});
 }
 
 // ---- W4

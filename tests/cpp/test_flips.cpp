@@ -1,11 +1,13 @@
-// Each bit of a region turned over in turn, or one bit of each N; and each that is in use of regions with names beneath others. The
-// archive and our own decoder must take the same ones for good, and a call on those must do what it does on our own store. What our
-// decoder accepts, our encoder writes as the same bytes again.
+// Each bit of a region turned over in turn, or one bit of each N; each in use of regions with names beneath others; and each
+// that says where values are found, before every read. The archive and our own decoder must take the same ones for good, and a call
+// on those must do what it does on our own store. What our decoder accepts, our encoder writes as the same bytes again.
 #include "entries.h"
 #include "samples.h"
 #include "share.h"
 #include "tests.h"
 #include "world.h"
+
+#include <atomic>
 
 // Every call but start tests the region, so they take turns. 19 of them, an odd number, so that each meets every bit of a byte:
 // prepare has three lists, one for names without a packed value, one that meets the packed table's lock, and one that meets a value
@@ -156,9 +158,45 @@ static void flip_nested()
                                             bit(name_offset(3) + slash, 0), bit(ROWS.slot(3) + 3, 0)});
 }
 
+// The bytes that say where values are found: the kinds of the loose ones, the packed ones, and what opens the packed table.
+static std::vector<size_t> bytes_of_places(const Store &store)
+{
+    std::vector<size_t> bytes = {AT_MODE, AT_PACKED_LOCK};
+    for (size_t n = 0; n < store.entries.size(); n++) {
+        bytes.push_back(LOOSE.slot(n));
+        for (size_t at = PACKED.slot(n); at < PACKED.slot(n + 1); at++)
+            bytes.push_back(at);
+    }
+    for (size_t i = 0; i < store.rows.size(); i++)
+        for (size_t at : {0, 1, 2, 3, 17}) // its name, kind, log, and the kind of its new target
+            bytes.push_back(ROWS.slot(i) + at);
+    return bytes;
+}
+
+// Each of their bits is turned over before every name is read, and every row. A packed value is one whichever of its bits is set.
+static void flip_places(const Store &store)
+{
+    std::vector<Call> reads;
+    for (size_t n = 0; n < store.entries.size(); n++)
+        reads.push_back(call::read_name(n));
+    for (size_t i = 0; i < store.rows.size(); i++)
+        reads.push_back(call::read_row(i));
+    const std::vector<size_t> bytes = bytes_of_places(store);
+    std::atomic<size_t> good = 0;
+    share_out(8 * bytes.size(), [&](size_t first, size_t end) {
+        Copy copy(encode(store));
+        for (size_t i = first; i < end; i++)
+            for (const Call &read : reads)
+                good += flip(copy, 8 * bytes[i / 8] + i % 8, read);
+    });
+    check(good > 300 * reads.size(), "few of the bits that say where values are found leave a good region");
+}
+
 void test_flips(size_t every)
 {
     flip_nested();
+    for (const Store &store : {prepared(), unopened()})
+        flip_places(store);
     for (const Store &store : {busy(), prepared()}) {
         const Bytes bytes = encode(store);
         flip_known(store, bytes);

@@ -17,10 +17,10 @@ extern "C" uint32_t move_from_c(uint8_t *region, size_t region_len, const uint8_
 extern "C" size_t settings_from_c(uint8_t *buffer, size_t buffer_len, uint32_t *number);
 extern "C" uint64_t site_from_c(uint8_t *region, size_t region_len, const uint8_t *record, size_t record_len, uint32_t *number);
 
-#if DEHLBAZIN_VERSION != 6000
-#error "the version is not 0.6.0, or #if cannot read it"
+#if DEHLBAZIN_VERSION != 7000
+#error "the version is not 0.7.0, or #if cannot read it"
 #endif
-static_assert(DEHLBAZIN_VERSION_MAJOR == 0 && DEHLBAZIN_VERSION_MINOR == 6 && DEHLBAZIN_VERSION_PATCH == 0);
+static_assert(DEHLBAZIN_VERSION_MAJOR == 0 && DEHLBAZIN_VERSION_MINOR == 7 && DEHLBAZIN_VERSION_PATCH == 0);
 static_assert(DEHLBAZIN_LAYOUT_VERSION == 1);
 static_assert(DEHLBAZIN_REGION_SIZE == REGION && DEHLBAZIN_ANSWER_SIZE == 16 * 8);
 
@@ -37,6 +37,9 @@ static_assert(DEHLBAZIN_UNKNOWN_VERSION == 24 && DEHLBAZIN_NAME_CONFLICT == 25 &
 static_assert(DEHLBAZIN_SETTING_NEVER == 0 && DEHLBAZIN_SETTING_NORMAL == 1 && DEHLBAZIN_SETTING_ALWAYS == 2);
 static_assert(DEHLBAZIN_KIND_NONE == NONE && DEHLBAZIN_KIND_OBJECT == OBJECT);
 static_assert(DEHLBAZIN_KIND_LINK == LINK && DEHLBAZIN_KIND_BROKEN == BROKEN);
+static_assert(DEHLBAZIN_PLACE_LOOSE == PLACE_LOOSE && DEHLBAZIN_PLACE_PACKED == PLACE_PACKED);
+static_assert(DEHLBAZIN_PLACE_PACKED_BEHIND_BROKEN == PLACE_PACKED_BEHIND_BROKEN && DEHLBAZIN_PLACE_ABSENT == PLACE_ABSENT);
+static_assert(DEHLBAZIN_PLACE_ABSENT_BEHIND_BROKEN == PLACE_ABSENT_BEHIND_BROKEN);
 static_assert(DEHLBAZIN_MODE_DELETIONS == 1 && DEHLBAZIN_MODE_UPDATES == 2 && DEHLBAZIN_MODE_UPDATES_REMOVE_LOOSE == 3);
 static_assert(DEHLBAZIN_ROW_UPDATE == UPDATE && DEHLBAZIN_ROW_DELETE == DELETE);
 static_assert(DEHLBAZIN_LOG_AND_REFERENCE == 0 && DEHLBAZIN_LOG_ONLY == 1);
@@ -90,7 +93,8 @@ static uint64_t place_of(uint32_t number, const Bytes &answer, size_t place)
     return number == DEHLBAZIN_DONE ? dehlbazin_place(answer.data(), place) : ~uint64_t(0);
 }
 
-static void test_places()
+// Where the answers to the calls on a name stand.
+static void test_name_places()
 {
     Bytes region = encode(prepared()), answer(DEHLBAZIN_ANSWER_SIZE);
     uint32_t number = dehlbazin_name_bytes(region.data(), region.size(), 1, answer.data(), answer.size());
@@ -100,14 +104,21 @@ static void test_places()
     number = dehlbazin_read_name(region.data(), region.size(), 0, answer.data(), answer.size());
     check(place_of(number, answer, DEHLBAZIN_READ_NAME_KIND) == DEHLBAZIN_KIND_LINK, "the kind that a name reads");
     check(place_of(number, answer, DEHLBAZIN_READ_NAME_NUMBER) == 1, "the number that a name reads");
+    check(place_of(number, answer, DEHLBAZIN_READ_NAME_PLACE) == DEHLBAZIN_PLACE_LOOSE, "where a name's value is found");
+    number = dehlbazin_read_name(region.data(), region.size(), 3, answer.data(), answer.size());
+    check(place_of(number, answer, DEHLBAZIN_READ_NAME_PLACE) == DEHLBAZIN_PLACE_ABSENT_BEHIND_BROKEN, "that none is found");
 
     number = dehlbazin_read_line(region.data(), region.size(), 3, 0, answer.data(), answer.size());
     check(place_of(number, answer, DEHLBAZIN_READ_LINE_PREVIOUS) == 0, "the object before");
     check(place_of(number, answer, DEHLBAZIN_READ_LINE_NEW) == 4, "the object after");
     check(place_of(number, answer, DEHLBAZIN_READ_LINE_COMMITTER) == 2, "the committer");
     check(place_of(number, answer, DEHLBAZIN_READ_LINE_MESSAGE) == 1, "the message of a line");
+}
 
-    number = dehlbazin_read_row(region.data(), region.size(), 1, answer.data(), answer.size());
+static void test_row_places()
+{
+    Bytes region = encode(prepared()), answer(DEHLBAZIN_ANSWER_SIZE);
+    uint32_t number = dehlbazin_read_row(region.data(), region.size(), 1, answer.data(), answer.size());
     check(place_of(number, answer, DEHLBAZIN_READ_ROW_NAME) == 1, "the name of a row");
     check(place_of(number, answer, DEHLBAZIN_READ_ROW_KIND) == DEHLBAZIN_ROW_UPDATE, "the kind of a row");
     check(place_of(number, answer, DEHLBAZIN_READ_ROW_LOG) == DEHLBAZIN_LOG_AND_REFERENCE, "the log of a row");
@@ -121,8 +132,11 @@ static void test_places()
     check(place_of(number, answer, DEHLBAZIN_READ_ROW_HAS_PARENT) == 1, "has a parent");
     check(place_of(number, answer, DEHLBAZIN_READ_ROW_PARENT) == 0, "the parent's place");
     check(place_of(number, answer, DEHLBAZIN_READ_ROW_LEAF_PREVIOUS) == 0, "no leaf-previous");
+    check(place_of(number, answer, DEHLBAZIN_READ_ROW_FOUND) == DEHLBAZIN_PLACE_LOOSE, "where a row found a loose value");
     number = dehlbazin_read_row(region.data(), region.size(), 0, answer.data(), answer.size());
     check(place_of(number, answer, DEHLBAZIN_READ_ROW_LEAF_PREVIOUS) == 7, "leaf-previous");
+    number = dehlbazin_read_row(region.data(), region.size(), 2, answer.data(), answer.size());
+    check(place_of(number, answer, DEHLBAZIN_READ_ROW_FOUND) == DEHLBAZIN_PLACE_PACKED, "where a row found a packed value");
 
     number = dehlbazin_rollback(region.data(), region.size(), answer.data(), answer.size());
     check(place_of(number, answer, DEHLBAZIN_ROLLBACK_ROWS) == 4, "the rows given up");
@@ -274,7 +288,8 @@ void test_header()
     test_settings_from_c();
     test_place();
     test_layout_version();
-    test_places();
+    test_name_places();
+    test_row_places();
     test_prepare_places();
     test_commit_places();
     test_list_from_c();

@@ -41,8 +41,8 @@ static void test_updates()
         world.gives(call::read_line(name, 1), 0, {7, 9, 1, 3});
         world.gives(call::read_line(name, 2), 22);
     }
-    world.gives(call::read_name(0), 0, {LINK, 1});
-    world.gives(call::read_name(1), 0, {OBJECT, 9});
+    world.gives(call::read_name(0), 0, {LINK, 1, PLACE_LOOSE});
+    world.gives(call::read_name(1), 0, {OBJECT, 9, PLACE_LOOSE});
 }
 
 // A refused list prepares nothing, so there is nothing to commit.
@@ -107,9 +107,12 @@ static void test_both_values()
     for (uint64_t allowance : {0, 1, 2}) {
         World world(store);
         world.gives(call::prepare(write_list({deleting(1)}), 1), 0, {1});
-        world.gives(call::read_name(1), 0, {OBJECT, 5});
+        world.gives(call::read_name(1), 0, {OBJECT, 5, PLACE_LOOSE});
         world.gives(call::commit(0, allowance), allowance == 2 ? 0 : 17, {allowance});
-        world.gives(call::read_name(1), 0, allowance == 2 ? std::vector<uint64_t>{NONE, 0} : std::vector<uint64_t>{OBJECT, 5});
+        if (allowance == 2)
+            world.gives(call::read_name(1), 0, {NONE, 0, PLACE_ABSENT});
+        else
+            world.gives(call::read_name(1), 0, {OBJECT, 5, PLACE_LOOSE});
     }
 }
 
@@ -155,7 +158,10 @@ static void test_most_rows()
         World world(store);
         world.gives(call::prepare(write_list(edits), 1), 0, {160});
         world.gives(call::commit(256, allowance), allowance < 192 ? 17 : 0, {std::min(allowance, uint64_t(192))});
-        world.gives(call::read_name(159), 0, allowance < 192 ? std::vector<uint64_t>{} : std::vector<uint64_t>{OBJECT, 32});
+        if (allowance < 192)
+            world.gives(call::read_name(159), 0, {NONE, 0, PLACE_ABSENT});
+        else
+            world.gives(call::read_name(159), 0, {OBJECT, 32, PLACE_LOOSE});
     }
 }
 
@@ -176,7 +182,7 @@ static void test_last_line()
     world.gives(call::read_line(0, MOST_LINES - 3), 0, {1, 7, 1, 3});
     world.gives(call::read_line(1, 1), 0, {7, 9, 1, 0});
     world.gives(call::prepare(write_list({updating(1, object(7))}), 1), 14);
-    world.gives(call::read_name(1), 0, {OBJECT, 9});
+    world.gives(call::read_name(1), 0, {OBJECT, 9, PLACE_LOOSE});
 }
 
 // A name of 64 bytes is moved like any other, one of 65 is none. The 256th name is moved, and number 256 is no name.
@@ -191,11 +197,11 @@ static void test_last_name()
     world.gives(call::prepare(write_list({updating(255, link(256))}), 2), 3, {256});
     world.gives(call::prepare(write_list({updating(255, object(7))}), 2), 0, {1});
     world.gives(call::commit(1, 3), 0, {3});
-    world.gives(call::read_name(255), 0, {OBJECT, 7});
+    world.gives(call::read_name(255), 0, {OBJECT, 7, PLACE_LOOSE});
     world.gives(call::read_line(255, 0), 0, {0, 7, 1, 0});
     world.gives(call::read_name(256), 3, {256});
     world.gives(call::load_loose(255, BROKEN, 0), 0);
-    world.gives(call::read_name(255), 0, {OBJECT, 7});
+    world.gives(call::read_name(255), 0, {OBJECT, 7, PLACE_PACKED_BEHIND_BROKEN});
 }
 
 void test_marked()

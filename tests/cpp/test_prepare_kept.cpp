@@ -129,7 +129,7 @@ static void test_untouched()
             after.entries[name].lock = FREE;
         }
         check(encode(after) == encode(store), "no more than rows, mode and locks");
-        world.gives(call::read_name(1), 0, {OBJECT, 7});
+        world.gives(call::read_name(1), 0, {OBJECT, 7, PLACE_LOOSE});
         world.gives(call::read_line(0, 2), 0, {7, ~uint64_t(0), 9, 9});
         world.gives(call::read_line(0, 3), 22);
     }
@@ -154,9 +154,9 @@ static void test_while_prepared()
     world.gives(call::unlock_name(2), 0);
     world.gives(call::add_name("refs/heads/new"), 0, {3});
     world.gives(call::lock_name(3), 0);
-    world.gives(call::read_row(1), 0, {2, 1, 0, 0, 0, 3, OBJECT, 9, OBJECT, 9, 0, 0, 0});
-    world.gives(call::read_row(2), 0, {1, 1, 0, 0, 0, 3, OBJECT, 7, OBJECT, 7, 1, 0, 0});
-    world.gives(call::read_row(0), 0, {0, 1, 1, 0, 0, 3, LINK, 1, OBJECT, 7, 0, 0, 7});
+    world.gives(call::read_row(1), 0, {2, 1, 0, 0, 0, 3, OBJECT, 9, OBJECT, 9, 0, 0, 0, PLACE_PACKED});
+    world.gives(call::read_row(2), 0, {1, 1, 0, 0, 0, 3, OBJECT, 7, OBJECT, 7, 1, 0, 0, PLACE_LOOSE});
+    world.gives(call::read_row(0), 0, {0, 1, 1, 0, 0, 3, LINK, 1, OBJECT, 7, 0, 0, 7, PLACE_LOOSE});
     world.gives(call::rollback(), 0, {3});
     world.gives(call::prepare(list, 1), 8, {0}); // the child's lock went to another
     world.gives(call::unlock_name(1), 0);

@@ -30,8 +30,8 @@ static void test_example()
     check(example.size() == 31 && write_list({edit}) == example, "our own writer writes other bytes");
     World world(marked());
     world.gives(call::prepare(example, 1), 0, {2});
-    world.gives(call::read_row(0), 0, {0, 1, 1, 0, 3, 3, LINK, 1, OBJECT, 7, 0, 0, 0});
-    world.gives(call::read_row(1), 0, {1, 1, 0, 0, 3, 0, NONE, 0, OBJECT, 7, 1, 0, 0});
+    world.gives(call::read_row(0), 0, {0, 1, 1, 0, 3, 3, LINK, 1, OBJECT, 7, 0, 0, 0, PLACE_LOOSE});
+    world.gives(call::read_row(1), 0, {1, 1, 0, 0, 3, 0, NONE, 0, OBJECT, 7, 1, 0, 0, PLACE_ABSENT});
 }
 
 static void test_frame()
@@ -238,8 +238,8 @@ static void test_wide_fields()
     second.message = 0x0201;
     World world(plain(256));
     world.gives(call::prepare(write_list({edit, second}), 3), 0, {2});
-    world.gives(call::read_row(0), 0, {255, 1, 1, 1, 65535, 4, OBJECT, larger, OBJECT, large, 0, 0, 0});
-    world.gives(call::read_row(1), 0, {254, 1, 0, 0, 0x0201, 4, LINK, 252, LINK, 253, 0, 0, 0});
+    world.gives(call::read_row(0), 0, {255, 1, 1, 1, 65535, 4, OBJECT, larger, OBJECT, large, 0, 0, 0, PLACE_ABSENT});
+    world.gives(call::read_row(1), 0, {254, 1, 0, 0, 0x0201, 4, LINK, 252, LINK, 253, 0, 0, 0, PLACE_ABSENT});
     world.gives(call::rollback(), 0, {2});
 }
 

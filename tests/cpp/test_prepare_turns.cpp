@@ -10,21 +10,23 @@ struct There {
     Value loose;
     uint64_t packed;
     bool log_only;
-    Value read; // what the row finds
+    Value read; // what the row finds, and where
+    uint64_t place;
 };
 
 static const There THERE[] = {
-    {"nothing", {}, 0, false, {}},
-    {"nothing, for the log only", {}, 0, true, {}},
-    {"a broken value", {BROKEN, 0}, 0, false, {}},
-    {"an object", {OBJECT, 5}, 0, false, {OBJECT, 5}},
-    {"an object, for the log only", {OBJECT, 5}, 0, true, {OBJECT, 5}},
-    {"a link", {LINK, 1}, 0, false, {LINK, 1}},
-    {"a packed object", {}, 5, false, {OBJECT, 5}},
-    {"a packed object that is not seen", {}, 5, true, {}},
-    {"a packed object behind a broken value", {BROKEN, 0}, 5, false, {OBJECT, 5}},
-    {"an object before a packed one", {OBJECT, 5}, 6, false, {OBJECT, 5}},
-    {"a link before a packed object", {LINK, 1}, 5, false, {LINK, 1}},
+    {"nothing", {}, 0, false, {}, PLACE_ABSENT},
+    {"nothing, for the log only", {}, 0, true, {}, PLACE_ABSENT},
+    {"a broken value", {BROKEN, 0}, 0, false, {}, PLACE_ABSENT_BEHIND_BROKEN},
+    {"an object", {OBJECT, 5}, 0, false, {OBJECT, 5}, PLACE_LOOSE},
+    {"an object, for the log only", {OBJECT, 5}, 0, true, {OBJECT, 5}, PLACE_LOOSE},
+    {"a link", {LINK, 1}, 0, false, {LINK, 1}, PLACE_LOOSE},
+    {"a packed object", {}, 5, false, {OBJECT, 5}, PLACE_PACKED},
+    {"a packed object that is not seen", {}, 5, true, {}, PLACE_ABSENT},
+    {"a packed object behind a broken value", {BROKEN, 0}, 5, false, {OBJECT, 5}, PLACE_PACKED_BEHIND_BROKEN},
+    {"a packed object behind a broken value, not seen", {BROKEN, 0}, 5, true, {}, PLACE_ABSENT_BEHIND_BROKEN},
+    {"an object before a packed one", {OBJECT, 5}, 6, false, {OBJECT, 5}, PLACE_LOOSE},
+    {"a link before a packed object", {LINK, 1}, 5, false, {LINK, 1}, PLACE_LOOSE},
 };
 
 // The object 1 and the link to name 1 are not the same, and neither are objects that end alike.
@@ -94,6 +96,7 @@ static void judge(World &world, Edit edit, const There &there)
     check(nothing ? row.expected == edit.expected : row.expected == MUST_EXIST_AND_MATCH, std::string(there.what) + ": expected");
     check(row.expected_target == (nothing ? edit.expected_target : there.read), std::string(there.what) + ": its target");
     world.agrees(call::read_row(0));
+    check(world.place(13) == there.place, std::string(there.what) + ": its place");
     world.gives(call::rollback(), 0, {1});
 }
 
@@ -115,7 +118,7 @@ static void test_table()
 }
 
 // Each refusal with its places, once with numbers that fill them.
-static void test_places()
+static void test_refusals()
 {
     const uint64_t large = 0x0102030405060708, larger = ~uint64_t(0);
     Store store = plain(256);
@@ -305,7 +308,7 @@ static void test_turns()
 void test_prepare_turns()
 {
     test_table();
-    test_places();
+    test_refusals();
     test_packed_lock();
     test_opened();
     test_unseen();

@@ -6,10 +6,11 @@
 static void test_rows()
 {
     World world(prepared());
-    world.gives(call::read_row(0), 0, {0, 1, 1, 1, 0x0203, 3, LINK, 1, OBJECT, 8, 0, 0, 7});
-    world.gives(call::read_row(1), 0, {1, 1, 0, 1, 0x0203, 3, OBJECT, 7, OBJECT, 8, 1, 0, 0});
-    world.gives(call::read_row(2), 0, {2, 1, 0, 0, 0, 3, OBJECT, 9, OBJECT, 9, 0, 0, 0});
-    world.gives(call::read_row(3), 0, {3, 2, 0, 0, 0, 4, OBJECT, 0x0102030405060708, NONE, 0, 0, 0, 0});
+    world.gives(call::read_row(0), 0, {0, 1, 1, 1, 0x0203, 3, LINK, 1, OBJECT, 8, 0, 0, 7, PLACE_LOOSE});
+    world.gives(call::read_row(1), 0, {1, 1, 0, 1, 0x0203, 3, OBJECT, 7, OBJECT, 8, 1, 0, 0, PLACE_LOOSE});
+    world.gives(call::read_row(2), 0, {2, 1, 0, 0, 0, 3, OBJECT, 9, OBJECT, 9, 0, 0, 0, PLACE_PACKED});
+    world.gives(call::read_row(3), 0,
+                {3, 2, 0, 0, 0, 4, OBJECT, 0x0102030405060708, NONE, 0, 0, 0, 0, PLACE_ABSENT_BEHIND_BROKEN});
     for (uint64_t place : {4, 5, 159, 160, 161, 255, 1000000})
         world.gives(call::read_row(place), 22);
     for (uint64_t k = 0; k < 5; k++)
@@ -47,11 +48,11 @@ static void test_fields()
     s.rows = {first, second, third, fourth};
     take_locks(s);
     World world(s);
-    world.gives(call::read_row(0), 0, {254, 1, 0, 0, 65535, 0, NONE, 0, LINK, 253, 0, 0, ~uint64_t(0)});
-    world.gives(call::read_row(1), 0, {1, 2, 1, 0, 0, 1, NONE, 0, NONE, 0, 1, 0, 0x2122232425262728});
+    world.gives(call::read_row(0), 0, {254, 1, 0, 0, 65535, 0, NONE, 0, LINK, 253, 0, 0, ~uint64_t(0), PLACE_ABSENT});
+    world.gives(call::read_row(1), 0, {1, 2, 1, 0, 0, 1, NONE, 0, NONE, 0, 1, 0, 0x2122232425262728, PLACE_ABSENT});
     world.gives(call::read_row(2), 0,
-                {255, 1, 0, 1, 0x4142, 4, LINK, 252, OBJECT, 0x3132333435363738, 1, 1, 0x5152535455565758});
-    world.gives(call::read_row(3), 0, {0, 1, 0, 0, 0, 2, NONE, 0, OBJECT, 1, 0, 0, 0});
+                {255, 1, 0, 1, 0x4142, 4, LINK, 252, OBJECT, 0x3132333435363738, 1, 1, 0x5152535455565758, PLACE_ABSENT});
+    world.gives(call::read_row(3), 0, {0, 1, 0, 0, 0, 2, NONE, 0, OBJECT, 1, 0, 0, 0, PLACE_ABSENT});
     world.gives(call::read_row(4), 22);
     world.gives(call::rollback(), 0, {4});
     world.gives(call::read_row(0), 22);
@@ -71,9 +72,9 @@ static void test_many_rows()
     }
     take_locks(s);
     World world(s);
-    world.gives(call::read_row(0), 0, {159, 2});
-    world.gives(call::read_row(159), 0, {0, 1, 0, 0, 0, 0, 0, 0, OBJECT, 159, 1, 127, 0});
-    world.gives(call::read_row(158), 0, {1, 2, 0, 0, 0, 0, 0, 0, NONE, 0, 1, 126, 0});
+    world.gives(call::read_row(0), 0, {159, 2, 0, 0, 0, 0, 0, 0, NONE, 0, 0, 0, 0, PLACE_ABSENT});
+    world.gives(call::read_row(159), 0, {0, 1, 0, 0, 0, 0, 0, 0, OBJECT, 159, 1, 127, 0, PLACE_ABSENT});
+    world.gives(call::read_row(158), 0, {1, 2, 0, 0, 0, 0, 0, 0, NONE, 0, 1, 126, 0, PLACE_ABSENT});
     world.gives(call::read_row(160), 22);
     world.gives(call::read_row(256), 22);
     world.gives(call::lock_name(0), 20);
@@ -110,12 +111,12 @@ static void test_in_the_way()
     world.gives(call::lock_packed(), 20);
     world.gives(call::unlock_packed(), 20);
     // Reads go on.
-    world.gives(call::read_name(0), 0, {LINK, 1});
-    world.gives(call::read_name(1), 0, {OBJECT, 7});
-    world.gives(call::read_name(2), 0, {OBJECT, 9});
-    world.gives(call::read_name(3), 0, {NONE, 0});
+    world.gives(call::read_name(0), 0, {LINK, 1, PLACE_LOOSE});
+    world.gives(call::read_name(1), 0, {OBJECT, 7, PLACE_LOOSE});
+    world.gives(call::read_name(2), 0, {OBJECT, 9, PLACE_PACKED});
+    world.gives(call::read_name(3), 0, {NONE, 0, PLACE_ABSENT_BEHIND_BROKEN});
     world.gives(call::read_name(6), 3, {6});
-    world.gives(call::read_row(1), 0, {1, 1, 0, 1, 0x0203, 3, OBJECT, 7, OBJECT, 8, 1, 0, 0});
+    world.gives(call::read_row(1), 0, {1, 1, 0, 1, 0x0203, 3, OBJECT, 7, OBJECT, 8, 1, 0, 0, PLACE_LOOSE});
     world.gives(call::start(3), 2);
     // Rolled back: what was ours is free, what is foreign stays, and loads work again.
     world.gives(call::rollback(), 0, {4});

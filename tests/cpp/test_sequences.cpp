@@ -14,11 +14,12 @@ static const int STEPS = 12;
 // With fewer sequences than this, some numbers may not come at all.
 static const size_t ENOUGH = 10000;
 
-// What came in all sequences: how often each call was done, which numbers were given, those of prepare and of commit apart, and how
-// often names above and beneath others mattered.
+// What came in all sequences: how often each call was done, which numbers were given, those of prepare and of commit apart, where
+// values were found, and how often names above and beneath others mattered.
 struct Met {
     std::atomic<size_t> done[OPS] = {};
     Tally calls, preparations, commits, starts;
+    Tally name_places, row_places, unseen; // the last of rows that do not see what is packed, where read_name would
     Nearness near;
 
     void add(Op op, uint32_t number)
@@ -29,12 +30,29 @@ struct Met {
             done[size_t(op)]++;
     }
 
+    // A read that was done, on this store.
+    void add_places(const Call &call, const Answer &given, const Store &store)
+    {
+        if (given.number != 0)
+            return;
+        if (call.op == Op::read_name)
+            name_places.add(uint32_t(given.places[2]));
+        if (call.op != Op::read_row)
+            return;
+        row_places.add(uint32_t(given.places[13]));
+        if (given.places[13] != reading_place(store.entries[given.places[0]]))
+            unseen.add(uint32_t(given.places[13]));
+    }
+
     void all_met() const
     {
         calls.all_met("sequences, but for prepare and commit,", {0, 2, 3, 15, 18, 19, 20, 21, 22});
         preparations.all_met("prepare in sequences", {0, 2, 3, 4, 6, 7, 8, 9, 10, 11, 12, 13, 14, 15, 25});
         commits.all_met("commit in sequences", {0, 2, 15, 16, 17});
         starts.all_met("start with settings in sequences", {0, 23, 24});
+        name_places.all_met("the places of names in sequences", {1, 2, 3, 4, 5});
+        row_places.all_met("the places of rows in sequences", {1, 2, 3, 4, 5});
+        unseen.all_met("the places of rows that do not see what is packed, in sequences", {4}); // 5 is too rare to be asked for
         near.all_met("sequences");
         for (size_t op = 0; op < OPS; op++)
             check(done[op] > 100, describe({Op(op), {}}) + " is hardly ever done");
@@ -58,6 +76,7 @@ static void play(Dice &dice, Met &met)
         const Store before = world.store();
         const Answer given = world.agrees(call);
         met.add(call.op, given.number);
+        met.add_places(call, given, before);
         near.add(call, given, before, world.store());
     };
     if (dice.once_in(4))

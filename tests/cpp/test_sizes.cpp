@@ -208,6 +208,7 @@ static void test_alignment()
         check(dehlbazin_load_loose(region, REGION, 5, 1, 0x1122334455667788, record, ANSWER) == 0, what);
         check(dehlbazin_read_name(region, REGION, 5, record, ANSWER) == 0, what);
         check(dehlbazin_place(record, 0) == 1 && dehlbazin_place(record, 1) == 0x1122334455667788, what);
+        check(dehlbazin_place(record, 2) == PLACE_LOOSE, what);
         const std::string list = write_list({updating(5, object(0x99AABBCCDDEEFF00))}), lent = std::string(shift, 'x') + list;
         const uint8_t *edits = reinterpret_cast<const uint8_t *>(lent.data()) + shift;
         check(dehlbazin_prepare(region, REGION, edits, list.size(), 1, record, ANSWER) == 0, what);

@@ -12,22 +12,22 @@ static void test_loose()
     for (uint64_t name : {0, 1, 2, 3, 4}) {
         for (uint64_t number : OBJECTS) {
             world.gives(call::load_loose(name, OBJECT, number), 0);
-            world.gives(call::read_name(name), 0, {OBJECT, number});
+            world.gives(call::read_name(name), 0, {OBJECT, number, PLACE_LOOSE});
         }
         for (uint64_t to : {0, 1, 2, 3, 4}) { // to itself too
             world.gives(call::load_loose(name, LINK, to), 0);
-            world.gives(call::read_name(name), 0, {LINK, to});
+            world.gives(call::read_name(name), 0, {LINK, to, PLACE_LOOSE});
         }
     }
     // None and broken show the packed value, where there is one.
     for (uint64_t kind : {NONE, BROKEN}) {
         world.gives(call::load_loose(0, kind, 0), 0);
-        world.gives(call::read_name(0), 0, {NONE, 0});
+        world.gives(call::read_name(0), 0, {NONE, 0, kind == NONE ? PLACE_ABSENT : PLACE_ABSENT_BEHIND_BROKEN});
         world.gives(call::load_loose(1, kind, 0), 0);
-        world.gives(call::read_name(1), 0, {OBJECT, 5});
+        world.gives(call::read_name(1), 0, {OBJECT, 5, kind == NONE ? PLACE_PACKED : PLACE_PACKED_BEHIND_BROKEN});
         world.gives(call::load_loose(1, kind, 0), 0);
         world.gives(call::load_loose(1, OBJECT, 6), 0);
-        world.gives(call::read_name(1), 0, {OBJECT, 6});
+        world.gives(call::read_name(1), 0, {OBJECT, 6, PLACE_LOOSE});
     }
 }
 
@@ -67,10 +67,13 @@ static void test_packed()
     for (uint64_t name : {1, 2, 4})
         for (uint64_t number : OBJECTS) {
             world.gives(call::load_packed(name, OBJECT, number), 0);
-            world.gives(call::read_name(name), 0, {OBJECT, name == 1 ? 7 : number});
+            if (name == 1) // which has a loose value too
+                world.gives(call::read_name(name), 0, {OBJECT, 7, PLACE_LOOSE});
+            else
+                world.gives(call::read_name(name), 0, {OBJECT, number, PLACE_PACKED});
         }
     world.gives(call::load_packed(4, NONE, 0), 0);
-    world.gives(call::read_name(4), 0, {NONE, 0});
+    world.gives(call::read_name(4), 0, {NONE, 0, PLACE_ABSENT});
     for (uint64_t name : {0, 3}) { // not packable
         world.gives(call::load_packed(name, NONE, 0), 0);
         world.gives(call::load_packed(name, OBJECT, 9), 21);
@@ -106,21 +109,24 @@ static void test_packable()
         World world;
         world.gives(call::add_name(name), 0, {0});
         world.gives(call::load_packed(0, OBJECT, 11), packable ? 0 : 21);
-        world.gives(call::read_name(0), 0, packable ? std::vector<uint64_t>{OBJECT, 11} : std::vector<uint64_t>{NONE, 0});
+        if (packable)
+            world.gives(call::read_name(0), 0, {OBJECT, 11, PLACE_PACKED});
+        else
+            world.gives(call::read_name(0), 0, {NONE, 0, PLACE_ABSENT});
         world.gives(call::load_packed(0, NONE, 0), 0);
         world.gives(call::load_loose(0, OBJECT, 12), 0);
-        world.gives(call::read_name(0), 0, {OBJECT, 12});
+        world.gives(call::read_name(0), 0, {OBJECT, 12, PLACE_LOOSE});
     }
 }
 
 static void test_read()
 {
     World world(busy());
-    world.gives(call::read_name(0), 0, {LINK, 1});
-    world.gives(call::read_name(1), 0, {OBJECT, 7});
-    world.gives(call::read_name(2), 0, {OBJECT, 0x0102030405060708});
-    world.gives(call::read_name(3), 0, {NONE, 0});
-    world.gives(call::read_name(4), 0, {NONE, 0});
+    world.gives(call::read_name(0), 0, {LINK, 1, PLACE_LOOSE});
+    world.gives(call::read_name(1), 0, {OBJECT, 7, PLACE_LOOSE});
+    world.gives(call::read_name(2), 0, {OBJECT, 0x0102030405060708, PLACE_PACKED});
+    world.gives(call::read_name(3), 0, {NONE, 0, PLACE_ABSENT_BEHIND_BROKEN});
+    world.gives(call::read_name(4), 0, {NONE, 0, PLACE_ABSENT});
     world.gives(call::read_name(5), 3, {5});
     for (uint64_t k = 0; k < 6; k++)
         for (uint64_t name : too_large(k))

@@ -17,6 +17,7 @@ void test_prepare_splits();
 void test_prepare_turns();
 void test_prepare_kept();
 void test_prepare_room();
+void test_places();
 void test_beneath();
 void test_beneath_regions();
 void test_commit_writes();

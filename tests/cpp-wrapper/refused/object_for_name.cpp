@@ -3,7 +3,7 @@
 
 using namespace dehlbazin;
 
-Result<std::optional<Target>> planner(const Store &store, NameNumber name, ObjectNumber object)
+Result<Found> planner(const Store &store, NameNumber name, ObjectNumber object)
 {
 #ifdef REFUSED
     return store.read_name(object); // refused

@@ -3,7 +3,7 @@
 
 using namespace dehlbazin;
 
-Result<std::optional<Target>> planner(const Store &store)
+Result<Found> planner(const Store &store)
 {
 #ifdef REFUSED
     return store.read_name(7); // refused
