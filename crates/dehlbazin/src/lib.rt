@@ -191,7 +191,7 @@ pub extern "C" fn dehlbazin_rollback(region: &mut [u8], answer: &mut [u8]) -> u3
     answers::finish(answer, verdict)
 }
 
-// What a name reads.
+// What a name reads, and where that is found.
 #[no_mangle]
 pub extern "C" fn dehlbazin_read_name(region: &[u8], name: u64, answer: &mut [u8]) -> u32
     ensures { λ r. ⌜ Did (call (readName name) (now (region .entry)) (now (answer .entry))) r (now (answer .exit)) (now (region .entry) ∷ []) ⌝ }
@@ -220,7 +220,7 @@ pub extern "C" fn dehlbazin_read_line(
     answers::finish(answer, verdict)
 }
 
-// A row of the prepared transaction.
+// A row of the prepared transaction, and where its existing value was found.
 #[no_mangle]
 pub extern "C" fn dehlbazin_read_row(region: &[u8], place: u64, answer: &mut [u8]) -> u32
     ensures { λ r. ⌜ Did (call (readRow place) (now (region .entry)) (now (answer .entry))) r (now (answer .exit)) (now (region .entry) ∷ []) ⌝ }
