@@ -12,7 +12,7 @@ pub type List = [u8; 895];
 
 // ---- the region
 
-// Where docs/LAYOUT.md has what no call tells.
+// Where docs/LAYOUT.md has what no call tells, or none that changes nothing.
 pub struct At {}
 
 impl At {

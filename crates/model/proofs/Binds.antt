@@ -1,13 +1,14 @@
 -- What a step of a chain that came through says: the step before it came through, with a value that the next one took.
 -- Assumes nothing.
 use mathlib.Core.Path.{_≡_, refl}
-use mathlib.Core.Bool.{Bool, true, false, cond}
+use mathlib.Core.Bool.{Bool, true, false, true≢false, cond}
 use mathlib.Core.Option.{Option, none, some}
 use Prim.Native.Nat.{ℕ}
 use native.Mathlib.Omega.{arith}
 use Rattle.target.specs.declared.NameNumber.{NameNumber}
 use Rattle.target.specs.declared.OptionName.the-variants.{NoName, Name}
 use Rattle.model.specs.declared.Refusal.{Refusal}
+use Rattle.model.specs.Store.{Prepared, isPrepared}
 use Rattle.model.specs.Outcome.{Outcome, refuseIf, orRefuse}
 use Rattle.model.specs.Outcome.Outcome.{refuse, pass}
 use Rattle.model.specs.Outcome as outcome
@@ -61,6 +62,11 @@ some-then m f b e k = let i = some-inv m f b e in k (i .0) (i .1) (i .2)
 pub refuseIf-inv : (t : Bool) (r : Refusal) → refuseIf t r ≡ pass tt → t ≡ false
 refuseIf-inv true r e = absurd (refuse-pass e)
 refuseIf-inv false r e = refl
+
+-- past 15 nothing is prepared
+pub not-prepared : (o : Option Prepared) → isPrepared o ≡ false → o ≡ none
+not-prepared none e = refl
+not-prepared (some p) e = absurd (true≢false e)
 
 pub orRefuse-inv : {A : Type 0} (r : Refusal) (o : Option A) (a : A) → orRefuse r o ≡ pass a → o ≡ some a
 orRefuse-inv r none a e = absurd (refuse-pass e)

@@ -1,6 +1,6 @@
 -- Every call but prepare and commit keeps the rules, and what holds of every reached store. Assumes nothing.
 use mathlib.Core.Path.{_≡_, refl}
-use mathlib.Core.Bool.{Bool, true, false, _&&_, _||_, not, cond, true≢false, false≢true}
+use mathlib.Core.Bool.{Bool, true, false, _&&_, not, cond, false≢true}
 use mathlib.Core.List.{List, [], _∷_, _++_}
 use mathlib.Core.Option.{Option, none, some}
 use mathlib.Core.Logic.{_⊎_}
@@ -19,7 +19,7 @@ use Rattle.model.specs.declared.WriteReflog.{WriteReflog}
 use Rattle.model.specs.declared.Refusal.{Refusal}
 use Rattle.model.specs.declared.Refusal.the-variants.{Malformed}
 use Rattle.model.specs.Names.{isName, sameBytes, packable}
-use Rattle.model.specs.Store.{Store, Entry, noEntry, Prepared, empty, count, entryAt, rowsIn, isPrepared, isLock, isId, isNone, lockByte, linesOf, putLoose, putPacked, putLock, changeEntry, withEntries, withPackedLock}
+use Rattle.model.specs.Store.{Store, Entry, noEntry, empty, count, entryAt, rowsIn, isPrepared, isLock, isId, isNone, lockByte, linesOf, putLoose, putPacked, putLock, changeEntry, withEntries, withPackedLock}
 use Rattle.model.specs.Outcome.{Outcome, refuseIf, orRefuse}
 use Rattle.model.specs.Outcome.Outcome.{refuse, pass}
 use Rattle.model.specs.Fine.{Fine, apartNames, fineEntry, fineLoose, finePacked}
@@ -31,6 +31,7 @@ use Rattle.model.specs.Load.{Lockable, settingOf, looseOf, packedOf, num
 use Rattle.model.specs.Load.Lockable.{name as ofName, packedTable}
 use Rattle.model.specs.Calls.{rolledBack, nameRead, lineRead, rowRead, step}
 use Rattle.model.specs.Reached.{leaves, Sound}
+use Rattle.model.proofs.Binds.{not-prepared}
 use Rattle.model.proofs.Places.{added-at, added-keeps}
 use Rattle.model.proofs.Base.{changed-count, changed-keeps, changed-at, entry-loose, entry-packed, Base, base, base-entry, idle-fine, idle-free, fine-sound, released-fine}
 use Rattle.model.proofs.Beneath.{neither, not-and, not-itself, Alone, alone-is, above-not, beneath-not, Fewer, alone-moved}
@@ -89,10 +90,6 @@ empty-fine setting = idle-fine (empty setting) nothing (record { alone = λ n m 
           short = omega arith;
           lines = λ n h. absurd (omega arith);
         }
-
-not-prepared : (p : Option Prepared) → isPrepared p ≡ false → p ≡ none
-not-prepared none e = refl
-not-prepared (some p) e = absurd (true≢false e)
 
 in-cond : {A : Type 0} (p : A → Bool) (t : Bool) (a : A) → (t ≡ true → p a ≡ true) → inAny p (cond t (some a) none) ≡ true
 in-cond p true a h = h refl

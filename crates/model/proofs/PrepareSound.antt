@@ -1,10 +1,9 @@
 -- A transaction that prepare accepts leaves a sound store. Assumes nothing.
-use mathlib.Core.Path.{_≡_, refl, sym, ap, subst, _∙_}
-use mathlib.Core.Bool.{Bool, false, _&&_}
+use mathlib.Core.Path.{_≡_, sym, ap, subst, _∙_}
+use mathlib.Core.Bool.{Bool, _&&_}
 use mathlib.Core.List.{List, map}
-use mathlib.Core.Option.{Option, none, some}
+use mathlib.Core.Option.{none}
 use Prim.Native.Nat.{ℕ, _+_, _≤_}
-use native.Mathlib.Omega.{arith}
 use lib.ListN.{length}
 use lib.Dec.{ltb}
 use borrow.Author.Tests.{ltb-false}
@@ -26,14 +25,10 @@ use Rattle.model.specs.Due.{dueLines}
 use Rattle.model.specs.Prepare.{registered, opening, turnsFrom, rowsFor, held}
 use Rattle.model.specs.Fine.{Fine}
 use Rattle.model.specs.Reached.{Sound}
-use Rattle.model.proofs.Binds.{pass-then, refuseIf-inv, orRefuse-inv, cond-pass, pass-is}
+use Rattle.model.proofs.Binds.{pass-then, refuseIf-inv, not-prepared, orRefuse-inv, cond-pass, pass-is}
 use Rattle.model.proofs.RowsFine.{RowsFine}
 use Rattle.model.proofs.SplitFine.{split-fine}
 use Rattle.model.proofs.HeldSound.{held-sound}
-
-not-prepared : (o : Option Prepared) → isPrepared o ≡ false → o ≡ none
-not-prepared none e = refl
-not-prepared (some p) e = absurd (let z : _≡_ {A = ℕ} 0 1 = cc in omega arith)
 
 -- where R2 does not refuse, it answers whether the packed table is opened
 opening-is : (s : Store) (mode : PackedRefs) (rows : List Edit) (opened : Bool) → opening s mode rows ≡ pass opened → opens s mode rows ≡ opened

@@ -9,7 +9,7 @@ use borrow.Author.Tests.{not-false}
 use Rattle.target.specs.declared.Target.{Target}
 use Rattle.target.specs.declared.Target.the-variants.{Object, Symbolic}
 use Rattle.target.specs.declared.OptionTarget.{OptionTarget}
-use Rattle.target.specs.declared.OptionTarget.the-variants.{Absent, Present}
+use Rattle.target.specs.declared.OptionTarget.the-variants.{Present}
 use Rattle.target.specs.Target.{sameOption}
 use Rattle.target.specs.Found.{valueIn}
 use Rattle.target.proofs.Laws.{option-true}

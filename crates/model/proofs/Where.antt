@@ -1,40 +1,33 @@
 -- The places that reads answer: the proofs of the statements of specs/Where.antt. Assumes nothing.
 use mathlib.Core.Path.{_≡_, refl, sym, ap, ap₂, _∙_, subst, fun-ext}
-use mathlib.Core.Bool.{Bool, true, false, false≢true}
+use mathlib.Core.Bool.{Bool, true, false≢true}
 use mathlib.Core.List.{List, map}
-use mathlib.Core.Option.{Option, none}
-use mathlib.Core.Logic.{_⊎_}
 use mathlib.Core.Logic._⊎_.{inl, inr}
-use Prim.Native.Nat.{ℕ, _<_}
+use Prim.Native.Nat.{ℕ}
 use native.Mathlib.Omega.{arith}
-use lib.ListN.{length}
-use Rattle.target.specs.declared.OptionTarget.the-variants.{Absent, Present}
+use Rattle.target.specs.declared.OptionTarget.the-variants.{Absent}
 use Rattle.target.specs.declared.Found.{Found}
 use Rattle.target.specs.declared.Found.the-variants as found
 use Rattle.target.specs.Found.{valueIn}
-use Rattle.target.specs.Fields.{placeNumber}
 use Rattle.transaction.specs.declared.PackedRefs.{PackedRefs}
 use Rattle.transaction.specs.declared.Edit.{Edit}
 use Rattle.transaction.specs.Change.{existingIn}
-use Rattle.model.specs.Store.{Store, Entry, Prepared, count, entryAt, rowsIn, modeIn, isPrepared}
+use Rattle.model.specs.Store.{Store, Prepared, entryAt, rowsIn, isPrepared}
 use Rattle.model.specs.Read.{foundOf}
 use Rattle.model.specs.Rows.{nameIn, changeIn, rowAt, opens}
 use Rattle.model.specs.Outcome.{Outcome}
 use Rattle.model.specs.Outcome.Outcome.{refuse, pass}
 use Rattle.model.specs.Fine.{Fine}
 use Rattle.model.specs.Prepare.{existingFound, rowsFor, held}
-use Rattle.model.specs.Reply.{Call, Reply, Given}
 use Rattle.model.specs.Reply.Call.{prepare}
-use Rattle.model.specs.Reply.Reply.{done}
 use Rattle.model.specs.Calls.{rowFound, rowsPrepared, step}
 use Rattle.model.specs.Reached.{leaves}
-use Rattle.model.specs.Where.{Missing, MissingAbsent, readings, rowsFound, AsRead, Stays, RowPlace, RowPlaces}
+use Rattle.model.specs.Where.{Missing, MissingAbsent, readings, rowsFound, AsRead, Stays, RowPlaces}
 use Rattle.model.proofs.Alike.{alike-opens, alike-map}
 use Rattle.model.proofs.SameRefs.{same-at, same-opens}
 use Rattle.model.proofs.Turns.{Turned, turns-fine}
 use Rattle.model.proofs.HeldSound.{held-refs}
-use Rattle.model.proofs.PrepareSound.{Came, came, came-split}
-use Rattle.model.proofs.Base.{Base}
+use Rattle.model.proofs.PrepareSound.{came, came-split}
 use Rattle.model.proofs.Grown.{Alike, Held, alike-fine, opening-alike}
 use Rattle.model.proofs.KeptSimple.{Rule}
 use Rattle.model.proofs.Kept.{call-kept, reached-sound}

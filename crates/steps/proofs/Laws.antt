@@ -32,7 +32,7 @@ use Rattle.model.specs.declared.Packed.the-variants as packed
 use Rattle.model.specs.declared.Line.{Line}
 use Rattle.model.specs.Basic.{select}
 use Rattle.model.specs.Names.{sameBytes}
-use Rattle.model.specs.Store.{Store, Entry, noEntry, noLine, count, entryAt, isId, isOf, linesOf, putLock, changeAt, changeEntry, withEntries, withPackedLock, withPrepared, entryOf}
+use Rattle.model.specs.Store.{Store, Entry, noEntry, noLine, count, isId, isOf, linesOf, putLock, changeAt, changeEntry, withEntries, withPackedLock, withPrepared, entryOf}
 use Rattle.model.specs.Load.{numberFrom}
 use Rattle.model.specs.Commit.{freed, released}
 use Rattle.region.specs.Region.{view, Laid, Became}
