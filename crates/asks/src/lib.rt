@@ -14,34 +14,40 @@ impl Call {
 
     pub const LOAD_PACKED: u64 = 2;
 
-    pub const LOCK_NAME: u64 = 3;
+    // A kind and a number.
+    pub const PLACE_LOCK: u64 = 3;
 
-    pub const UNLOCK_NAME: u64 = 4;
+    pub const LIFT_LOCK: u64 = 4;
 
-    pub const LOCK_PACKED: u64 = 5;
+    pub const COMMIT: u64 = 5;
 
-    pub const UNLOCK_PACKED: u64 = 6;
+    pub const ROLLBACK: u64 = 6;
 
-    pub const COMMIT: u64 = 7;
+    pub const NAME_BYTES: u64 = 7;
 
-    pub const ROLLBACK: u64 = 8;
+    pub const READ_NAME: u64 = 8;
 
-    pub const NAME_BYTES: u64 = 9;
+    pub const READ_LINE: u64 = 9;
 
-    pub const READ_NAME: u64 = 10;
-
-    pub const READ_LINE: u64 = 11;
-
-    pub const READ_ROW: u64 = 12;
+    pub const READ_ROW: u64 = 10;
 
     // The name's bytes stand in the line: the first, and the one behind the last.
-    pub const ADD_NAME: u64 = 13;
+    pub const ADD_NAME: u64 = 11;
 
     // How many edits, and the mode.
-    pub const PREPARE: u64 = 14;
+    pub const PREPARE: u64 = 12;
 
     // Offset, width and number.
-    pub const PUT: u64 = 15;
+    pub const PUT: u64 = 13;
+}
+
+// What a lock is placed on and lifted from.
+pub struct Kind {}
+
+impl Kind {
+    pub const NAME: u64 = 0;
+
+    pub const PACKED_TABLE: u64 = 1;
 }
 
 // The numbers of one call: which it is, its own three, what it is to return, and which places of its record are judged: as many as
@@ -157,6 +163,7 @@ fn judge_place(notes: &mut Notes, ask: u64, many: u64, i: u64) {
         notes,
         call,
         notes::of_ask(notes, ask, 1),
+        notes::of_ask(notes, ask, 2),
         i,
         expected,
         found,
@@ -182,6 +189,7 @@ pub fn judge(notes: &mut Notes, ask: u64) {
             notes,
             call,
             notes::of_ask(notes, ask, 1),
+            notes::of_ask(notes, ask, 2),
             16,
             expected,
             found,

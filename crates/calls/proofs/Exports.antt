@@ -17,7 +17,7 @@ use Rattle.model.specs.Commit.Stop.{noCommitter, usedUp}
 use Rattle.model.specs.Outcome.{Outcome, orRefuse}
 use Rattle.model.specs.Outcome.Outcome.{refuse, pass}
 use Rattle.model.specs.Reply.{Call, Reply, _>>=_}
-use Rattle.model.specs.Reply.Call.{start, addName, nameBytes, loadLoose, loadPacked, lockName, unlockName, lockPacked, unlockPacked, prepare, commit, rollback, readName, readLine, readRow}
+use Rattle.model.specs.Reply.Call.{start, addName, nameBytes, loadLoose, loadPacked, placeLock, liftLock, prepare, commit, rollback, readName, readLine, readRow}
 use Rattle.model.specs.Reply.Reply.{done, stopped, refused}
 use Rattle.model.specs.Reply.Given.{nothing}
 use Rattle.model.specs.Load.{settingOf, started}
@@ -28,13 +28,14 @@ use Rattle.answers.specs.Answers.{answerBy}
 use Rattle.model.specs.Reached.{Reached, leaves}
 use Rattle.model.specs.Reached.Reached.{begun, after}
 use Rattle.model.proofs.Kept.{reached-sound}
+use Rattle.model.proofs.Locks.{as-before}
 use Rattle.settings.specs.Format.{Settings, read}
 use Rattle.region.specs.Layout.{regionSize}
 use Rattle.region.specs.Region.{image, decode}
 use Rattle.region.proofs.Sized.{length-image}
 use Rattle.region.proofs.Decode.{decoded, decode-image}
 use Rattle.calls.specs.Call.{sized, startFrom, stepOn, replyTo, replyToRecord, regionAfter, Out, outOf, untouched, call, startCall, Did}
-use Rattle.calls.specs.Exports.{Determined, BelowDetermined, PartDetermined, Unchanged, StartUnchanged, GotReached}
+use Rattle.calls.specs.Exports.{Determined, BelowDetermined, PartDetermined, Unchanged, StartUnchanged, GotReached, LocksAsBefore}
 use Rattle.calls.specs.Exports.Got.{begun as got·begun, begunWith as got·begunWith, after as got·after, afterWith as got·afterWith}
 
 -- ---- determined
@@ -92,10 +93,8 @@ replies-to (addName bytes) r s e = rw e
 replies-to (nameBytes n) r s e = rw e
 replies-to (loadLoose n kind x) r s e = rw e
 replies-to (loadPacked n kind x) r s e = rw e
-replies-to (lockName n) r s e = rw e
-replies-to (unlockName n) r s e = rw e
-replies-to lockPacked r s e = rw e
-replies-to unlockPacked r s e = rw e
+replies-to (placeLock kind n) r s e = rw e
+replies-to (liftLock kind n) r s e = rw e
 replies-to (prepare list mode) r s e = rw e
 replies-to (commit committer allowance) r s e = rw e
 replies-to rollback r s e = rw e
@@ -264,3 +263,12 @@ got-reached r (got·after {r = r₀} g c n a a′ _ d) =
     let h = got-reached r₀ g in goes-on c r₀ a n a′ r (h .0) (h .1) (h .2) d
 got-reached r (got·afterWith {r = r₀} g bytes n a a′ _ d) =
     let held = got-reached r₀ g in starts-with bytes r₀ a n a′ r d (λ _. held)
+
+-- ---- the lock calls
+
+pub locks-as-before : LocksAsBefore
+locks-as-before kind n r a s e l =
+    let was = as-before kind n s in (
+      does-step (placeLock kind n) r a s e l ∙ ap (λ (reply : Reply). outOf reply r) (was .0),
+      does-step (liftLock kind n) r a s e l ∙ ap (λ (reply : Reply). outOf reply r) (was .1),
+    )

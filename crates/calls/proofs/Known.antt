@@ -18,15 +18,18 @@ use Rattle.region.specs.Region.{view}
 
 -- o is the name of the number, if it is registered
 module _ (n : ℕ) (s : Store) (o : OptionName) (e : o ≡ nameBelow (count s) n) where
-  pub known-far : o ≡ NoName → known n s ≡ refuse (NotRegistered n)
-  known-far h = go (ltb n (count s)) refl
+  pub is-far : o ≡ NoName → ltb n (count s) ≡ false
+  is-far h = go (ltb n (count s)) refl
     where
-      go : (b : Bool) → ltb n (count s) ≡ b → known n s ≡ refuse (NotRegistered n)
+      go : (b : Bool) → ltb n (count s) ≡ b → b ≡ false
       go true p = absurd (let q : o ≡ Name (record { 0 = n }) = rw p at e in let z : _≡_ {A = ℕ} 0 1 = cc in omega arith)
-      go false p = rw p
+      go false p = refl
+
+  pub known-far : o ≡ NoName → known n s ≡ refuse (NotRegistered n)
+  known-far h = rw (is-far h)
 
   module _ (m : NameNumber) (h : o ≡ Name m) where
-    is-below : (ltb n (count s) ≡ true) × (m ≡ record { 0 = n })
+    pub is-below : (ltb n (count s) ≡ true) × (m ≡ record { 0 = n })
     is-below = go (ltb n (count s)) refl
       where
         go : (b : Bool) → ltb n (count s) ≡ b → (b ≡ true) × (m ≡ record { 0 = n })

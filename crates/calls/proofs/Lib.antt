@@ -2,7 +2,6 @@ pub mod Replies
 pub mod Laws
 pub mod Known
 pub mod Exports
-pub mod Turns
 pub mod Answered
 pub mod Ended
 pub mod Stopped

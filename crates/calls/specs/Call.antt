@@ -12,7 +12,7 @@ use Rattle.model.specs.declared.WriteReflog.{WriteReflog}
 use Rattle.model.specs.declared.WriteReflog.the-variants.{Disable}
 use Rattle.model.specs.Store.{Store, empty}
 use Rattle.model.specs.Reply.{Call, Reply}
-use Rattle.model.specs.Reply.Call.{start, addName, nameBytes, loadLoose, loadPacked, lockName, unlockName, lockPacked, unlockPacked, prepare, commit, rollback, readName, readLine, readRow}
+use Rattle.model.specs.Reply.Call.{start, addName, nameBytes, loadLoose, loadPacked, placeLock, liftLock, prepare, commit, rollback, readName, readLine, readRow}
 use Rattle.model.specs.Reply.Reply.{done, stopped, refused}
 use Rattle.model.specs.Calls.{step}
 use Rattle.model.specs.Outcome.{Outcome}
@@ -38,10 +38,8 @@ isStart (addName bytes) = false
 isStart (nameBytes n) = false
 isStart (loadLoose n kind x) = false
 isStart (loadPacked n kind x) = false
-isStart (lockName n) = false
-isStart (unlockName n) = false
-isStart lockPacked = false
-isStart unlockPacked = false
+isStart (placeLock kind n) = false
+isStart (liftLock kind n) = false
 isStart (prepare list mode) = false
 isStart (commit committer allowance) = false
 isStart rollback = false

@@ -4,13 +4,15 @@ use mathlib.Core.Path.{_≡_}
 use mathlib.Core.List.{List, [], _∷_}
 use mathlib.Core.Option.{some}
 use Prim.Native.Nat.{ℕ}
+use lib.ListN.{length}
 use Rattle.model.specs.Store.{Store}
 use Rattle.model.specs.Reply.{Call, Reply}
-use Rattle.model.specs.Reply.Call.{start}
+use Rattle.model.specs.Reply.Call.{start, placeLock, liftLock}
 use Rattle.model.specs.Reached.{Reached}
+use Rattle.model.specs.Locks.{placing, lifting, didBefore}
 use Rattle.region.specs.Region.{decode}
 use Rattle.answers.specs.declared.Verdict.{Verdict}
-use Rattle.calls.specs.Call.{Out, call, startCall, Did, Replied, namePart}
+use Rattle.calls.specs.Call.{Out, outOf, call, startCall, Did, Replied, namePart}
 
 -- ---- determined: two results that satisfy the contract of an exported call are equal, whatever it says is to come out
 
@@ -63,3 +65,13 @@ pub data Got : List ℕ → Type 0 where
 -- decodes to a reached store
 abbrev pub GotReached : Type 0
 GotReached = (r : List ℕ) → Got r → (s : Store) × (decode r ≡ some s) × Reached s
+
+-- ---- 2026-05: a caller gets of the two lock calls what the four gave, the number, the record and every byte of the region
+
+abbrev pub LocksAsBefore : Type 0
+LocksAsBefore =
+    (kind n : ℕ) (r a : List ℕ) (s : Store)
+    → decode r ≡ some s
+    → length a ≡ 128
+    → (call (placeLock kind n) r a ≡ outOf (didBefore (placing kind n) s) r)
+    × (call (liftLock kind n) r a ≡ outOf (didBefore (lifting kind n) s) r)

@@ -1,8 +1,8 @@
 // The calls that a foreign program links. Each tests the answer record's size, makes the call and fills the record; its contract
 // fixes the number, every byte of the record and every byte of what is lent, the region first.
 ghost use mathlib.Core.List.{[], _∷_};
-ghost use Rattle.model.specs.Reply.Call.{start, addName, nameBytes, loadLoose, loadPacked, lockName, unlockName};
-ghost use Rattle.model.specs.Reply.Call.{lockPacked, unlockPacked, prepare, commit, rollback, readName, readLine, readRow};
+ghost use Rattle.model.specs.Reply.Call.{start, addName, nameBytes, loadLoose, loadPacked, placeLock, liftLock};
+ghost use Rattle.model.specs.Reply.Call.{prepare, commit, rollback, readName, readLine, readRow};
 ghost use Rattle.settings.specs.Lent.{settingsGiven, committersGiven};
 ghost use Rattle.calls.specs.Call.{call, startCall, Did};
 ghost use Rattle.records.specs.Record.{recordCall};
@@ -97,51 +97,37 @@ pub extern "C" fn dehlbazin_load_packed(
     answers::finish(answer, verdict)
 }
 
-// Places a foreign lock on a name.
+// Places a foreign lock on a name, kind 0, or on the packed table, kind 1, beside which the number is not looked at.
 #[no_mangle]
-pub extern "C" fn dehlbazin_lock_name(region: &mut [u8], name: u64, answer: &mut [u8]) -> u32
-    ensures { λ r. ⌜ Did (call (lockName name) (now (region .entry)) (now (answer .entry))) r (now (answer .exit)) (now (region .exit) ∷ []) ⌝ }
+pub extern "C" fn dehlbazin_place_lock(
+    region: &mut [u8],
+    kind: u64,
+    number: u64,
+    answer: &mut [u8],
+) -> u32
+    ensures { λ r. ⌜ Did (call (placeLock kind number) (now (region .entry)) (now (answer .entry))) r (now (answer .exit)) (now (region .exit) ∷ []) ⌝ }
 {
     if answer.len() != Answer::SIZE {
         return Answer::BAD_REGION;
     }
-    let verdict = locks::lock_name(region, name);
+    let verdict = locks::place_lock(region, kind, number);
     answers::finish(answer, verdict)
 }
 
-// Lifts a foreign lock from a name.
+// Lifts it.
 #[no_mangle]
-pub extern "C" fn dehlbazin_unlock_name(region: &mut [u8], name: u64, answer: &mut [u8]) -> u32
-    ensures { λ r. ⌜ Did (call (unlockName name) (now (region .entry)) (now (answer .entry))) r (now (answer .exit)) (now (region .exit) ∷ []) ⌝ }
+pub extern "C" fn dehlbazin_lift_lock(
+    region: &mut [u8],
+    kind: u64,
+    number: u64,
+    answer: &mut [u8],
+) -> u32
+    ensures { λ r. ⌜ Did (call (liftLock kind number) (now (region .entry)) (now (answer .entry))) r (now (answer .exit)) (now (region .exit) ∷ []) ⌝ }
 {
     if answer.len() != Answer::SIZE {
         return Answer::BAD_REGION;
     }
-    let verdict = locks::unlock_name(region, name);
-    answers::finish(answer, verdict)
-}
-
-// Places a foreign lock on the packed table.
-#[no_mangle]
-pub extern "C" fn dehlbazin_lock_packed(region: &mut [u8], answer: &mut [u8]) -> u32
-    ensures { λ r. ⌜ Did (call lockPacked (now (region .entry)) (now (answer .entry))) r (now (answer .exit)) (now (region .exit) ∷ []) ⌝ }
-{
-    if answer.len() != Answer::SIZE {
-        return Answer::BAD_REGION;
-    }
-    let verdict = locks::lock_packed(region);
-    answers::finish(answer, verdict)
-}
-
-// Lifts a foreign lock from the packed table.
-#[no_mangle]
-pub extern "C" fn dehlbazin_unlock_packed(region: &mut [u8], answer: &mut [u8]) -> u32
-    ensures { λ r. ⌜ Did (call unlockPacked (now (region .entry)) (now (answer .entry))) r (now (answer .exit)) (now (region .exit) ∷ []) ⌝ }
-{
-    if answer.len() != Answer::SIZE {
-        return Answer::BAD_REGION;
-    }
-    let verdict = locks::unlock_packed(region);
+    let verdict = locks::lift_lock(region, kind, number);
     answers::finish(answer, verdict)
 }
 

@@ -1,135 +1,117 @@
--- Placing and lifting: what each way out answers. Assumes nothing.
-use mathlib.Core.Path.{_≡_, refl, ap, _∙_, subst}
+-- Foreign locks: what is locked, its lock, and what each way out of the two calls answers. Assumes nothing.
+use mathlib.Core.Path.{_≡_, refl, sym, ap, subst, _∙_}
 use mathlib.Core.Bool.{Bool, true, false, not, cond}
-use mathlib.Core.List.{List, [], _∷_}
-use Prim.Native.Nat.{ℕ}
+use mathlib.Core.List.{List, []}
+use Prim.Native.Nat.{ℕ, zero, suc, _<_}
+use lib.Dec.{eqb, ltb}
+use borrow.Author.Tests.{ltb-true, not-true, not-false}
 use Rattle.target.specs.declared.NameNumber.{NameNumber}
 use Rattle.target.specs.declared.OptionName.{OptionName}
-use Rattle.target.specs.declared.OptionName.the-variants.{NoName, Name}
+use Rattle.target.specs.declared.OptionName.the-variants as optionName
 use Rattle.target.specs.Fields.{nameBelow}
 use Rattle.model.specs.declared.Lock.{Lock}
+use Rattle.model.specs.declared.Lock.the-variants.{Free, Foreign}
+use Rattle.model.specs.declared.Lockable.{Lockable}
+use Rattle.model.specs.declared.Lockable.the-variants.{Name, PackedTable}
 use Rattle.model.specs.declared.Refusal.{Refusal}
-use Rattle.model.specs.declared.Refusal.the-variants.{NotRegistered, WrongLock}
-use Rattle.model.specs.Store.{Store, count, entryAt, entryOf, putLock, changeEntry, withPackedLock}
+use Rattle.model.specs.declared.Refusal.the-variants.{Malformed, NotRegistered, WrongLock}
+use Rattle.model.specs.Store.{Store, count, entryOf, isLock, lockByte, putLock, changeEntry, withPackedLock}
 use Rattle.model.specs.Outcome.Outcome.{refuse, pass}
-use Rattle.model.specs.Reply.{Call, Reply, _>>_}
-use Rattle.model.specs.Reply.Reply.{done, refused}
-use Rattle.model.specs.Reply.Call.{lockName, unlockName, lockPacked, unlockPacked}
-use Rattle.model.specs.Reply.Given.{nothing}
+use Rattle.model.specs.Reply.{Call, Reply}
+use Rattle.model.specs.Reply.Call.{placeLock, liftLock}
 use Rattle.model.specs.Calls.{step}
-use Rattle.model.specs.Load.{Lockable, knownLock, lockOf, setLock, placed, lifted}
-use Rattle.model.specs.Load.Lockable.{name, packedTable}
-use Rattle.model.specs.Numbers.{answer, refusalAnswer}
+use Rattle.model.specs.Load.{lockable, lockOf, setLock, relocked, placed, lifted}
+use Rattle.model.specs.Numbers.{answer, answerOf, refusalAnswer}
+use Rattle.model.proofs.Binds.{refuse-pass, pass-is}
 use Rattle.region.specs.Region.{view, good, Became}
-use Rattle.steps.specs.declared.Turned.{Turned}
-use Rattle.steps.specs.declared.Turned.the-variants as turned
-use Rattle.steps.specs.Steps.{placedOn, liftedFrom}
+use Rattle.region.proofs.Decode.{became-image}
 use Rattle.answers.specs.declared.Verdict.{Verdict}
 use Rattle.answers.specs.Answers.{answerBy}
 use Rattle.calls.specs.Call.{isStart, replyTo, Replied}
-use Rattle.calls.proofs.Replies.{bad-region, says-no, says-done}
-use Rattle.calls.proofs.Known.{known-far, known-near, known-as}
-use Rattle.calls.proofs.Turns.{place-no, place-done, lift-no, lift-done}
+use Rattle.calls.proofs.Replies.{refuses, replies}
+use Rattle.calls.proofs.Known.{is-far, is-below}
+use Rattle.locks.specs.declared.Sought.{Sought}
+use Rattle.locks.specs.declared.Sought.the-variants.{Refused, Found}
+use Rattle.locks.specs.Locks.{soughtOutcome, isThere}
 
--- what a lock becomes
-pub turned-placed : (p : Bool) (l : Lock) (t : Turned) → p ≡ true → t ≡ placedOn l → t ≡ cond p (placedOn l) (liftedFrom l)
-turned-placed p l t h e = rw h e
+-- ---- what a kind and a number stand for
 
-pub turned-lifted : (p : Bool) (l : Lock) (t : Turned) → p ≡ false → t ≡ liftedFrom l → t ≡ cond p (placedOn l) (liftedFrom l)
-turned-lifted p l t h e = rw h e
+module _ (kind n : ℕ) (s : Store) where
+  pub kind-name-far : (o : OptionName) → kind ≡ 0 → o ≡ nameBelow (count s) n → o ≡ optionName.NoName → refuse (NotRegistered n) ≡ lockable kind n s
+  kind-name-far o k e h = rw (k, is-far n s o e h)
 
-module _ (l : Lockable) (s : Store) where
-  -- the model's step, placing or lifting
-  abbrev turning : Bool → Reply
-  turning p = cond p (placed l s) (lifted l s)
+  pub kind-name : (o : OptionName) (m : NameNumber) → kind ≡ 0 → o ≡ nameBelow (count s) n → o ≡ optionName.Name m → pass (Name m) ≡ lockable kind n s
+  kind-name o m k e h = let is = is-below n s o e m h in rw (k, is .0, is .1)
 
-  turn-far : (p : Bool) (x : Refusal) → knownLock l s ≡ refuse x → turning p ≡ refused x
-  unfolding placed lifted
-  turn-far true x k = rw k
-  turn-far false x k = rw k
+  pub kind-table : kind ≡ 1 → pass PackedTable ≡ lockable kind n s
+  kind-table k = rw k
 
-  module _ (k : knownLock l s ≡ pass tt) (t : Turned) (a : Lock) (ea : a ≡ lockOf l s) where
-    turn-no : (p : Bool) → t ≡ cond p (placedOn a) (liftedFrom a) → t ≡ turned.Refused → turning p ≡ refused WrongLock
-    turn-no true et h = place-no l s k t a ea et h
-    turn-no false et h = lift-no l s k t a ea et h
+pub kind-other : (kind n : ℕ) (s : Store) → (kind ≡ 0 → ⊥) → (kind ≡ 1 → ⊥) → refuse Malformed ≡ lockable kind n s
+kind-other zero n s p q = absurd (p refl)
+kind-other (suc zero) n s p q = absurd (q refl)
+kind-other (suc (suc k)) n s p q = refl
 
-    turn-done : (p : Bool) (v : Lock) → t ≡ cond p (placedOn a) (liftedFrom a) → t ≡ turned.Becomes v → turning p ≡ done (setLock l v s) nothing
-    turn-done true v et h = place-done l s k t a ea et v h
-    turn-done false v et h = lift-done l s k t a ea et v h
+-- ---- its lock
 
--- one of two calls
-either-looks : (p : Bool) (c d : Call) → isStart c ≡ false → isStart d ≡ false → isStart (cond p c d) ≡ false
-either-looks true c d h g = h
-either-looks false c d h g = g
+module _ (what : Lockable) (s : Store) (m : NameNumber) where
+  pub there-near : what ≡ Name m → isThere what s ≡ true → m .0 < count s
+  there-near h t = ltb-true (m .0) (count s) (subst (λ (w : Lockable). isThere w s ≡ true) h t)
 
-either-steps : (p : Bool) (c d : Call) (s : Store) → step (cond p c d) s ≡ cond p (step c s) (step d s)
-either-steps true c d s = refl
-either-steps false c d s = refl
+  pub lock-name : (l : Lock) → what ≡ Name m → l ≡ entryOf s m .lock → l ≡ lockOf what s
+  lock-name l h e = rw h e
 
-module _ (p : Bool) (r : List ℕ) (ok : Bool) (is : ok ≡ good r) (x : Verdict) where
-  -- ---- a name's lock
+  pub set-name : (l : Lock) (r : List ℕ) → what ≡ Name m → Became r (changeEntry (putLock l) (m .0) s) → Became r (setLock what l s)
+  set-name l r h b = rw h b
 
-  module _ (n : ℕ) where
-    abbrev onName : Call
-    onName = cond p (lockName n) (unlockName n)
+module _ (what : Lockable) (s : Store) where
+  pub lock-table : (l : Lock) → what ≡ PackedTable → l ≡ s .packedLock → l ≡ lockOf what s
+  lock-table l h e = rw h e
 
-    name-looks : isStart onName ≡ false
-    name-looks = either-looks p (lockName n) (unlockName n) refl refl
+  pub set-table : (l : Lock) (r : List ℕ) → what ≡ PackedTable → Became r (withPackedLock s l) → Became r (setLock what l s)
+  set-table l r h b = rw h b
 
-    name-steps : step onName (view r) ≡ turning (name n) (view r) p
-    unfolding step
-    name-steps = either-steps p (lockName n) (unlockName n) (view r)
+pub same-bytes : (a b : Lock) (x y : ℕ) → x ≡ lockByte a → y ≡ lockByte b → eqb x y ≡ isLock a b
+same-bytes a b x y e f = rw (e, f)
 
-    pub name-bad : not ok ≡ true → answerBy x ≡ answer 1 [] → Replied x r r (replyTo (cond p (lockName n) (unlockName n)) r)
-    name-bad y a = bad-region onName r ok is name-looks x y a
+-- what is found is there
+pub found-there : (kind n : ℕ) (s : Store) (o : Sought) (what : Lockable) → soughtOutcome o ≡ lockable kind n s → o ≡ Found what → isThere what s ≡ true
+found-there kind n s o what is h = go kind (sym is ∙ ap soughtOutcome h)
+  where
+    named : (b : Bool) → ltb n (count s) ≡ b → cond b (pass (Name (record { 0 = n }))) (refuse (NotRegistered n)) ≡ pass what → isThere what s ≡ true
+    named true p e = subst (λ (w : Lockable). isThere w s ≡ true) (pass-is e) p
+    named false p e = absurd (refuse-pass e)
 
-    module _ (y : not ok ≡ false) (o : OptionName) (e : o ≡ nameBelow (count (view r)) n) where
-      pub name-far : o ≡ NoName → answerBy x ≡ answer 3 (n ∷ []) → Replied x r r (replyTo (cond p (lockName n) (unlockName n)) r)
-      unfolding refusalAnswer
-      name-far h a =
-          says-no onName r ok is name-looks y (NotRegistered n) x a
-          (name-steps ∙ turn-far (name n) (view r) p (NotRegistered n) (known-far n (view r) o e h))
+    go : (kind : ℕ) → lockable kind n s ≡ pass what → isThere what s ≡ true
+    go zero e = named (ltb n (count s)) refl e
+    go (suc zero) e = subst (λ (w : Lockable). isThere w s ≡ true) (pass-is e) refl
+    go (suc (suc k)) e = absurd (refuse-pass e)
 
-      module _ (m : NameNumber) (h : o ≡ Name m) (t : Turned) (l : Lock) (el : l ≡ entryOf (view r) m .lock) (et : t ≡ cond p (placedOn l) (liftedFrom l)) where
-        there : l ≡ entryAt (view r) n .lock
-        there = el ∙ ap (λ (m : NameNumber). entryOf (view r) m .lock) (known-as n (view r) o e m h)
+-- ---- the ways out
 
-        pub name-no : t ≡ turned.Refused → answerBy x ≡ answer 20 [] → Replied x r r (replyTo (cond p (lockName n) (unlockName n)) r)
-        unfolding refusalAnswer
-        name-no g a =
-            says-no onName r ok is name-looks y WrongLock x a
-            (name-steps ∙ turn-no (name n) (view r) (known-near n (view r) o e m h) t l there p et g)
+module _ (must becomes : Lock) (kind n : ℕ) (r : List ℕ) (o : Sought) (is : soughtOutcome o ≡ lockable kind n (view r)) (x : Verdict) where
+  pub relock-refused : (why : Refusal) → o ≡ Refused why → answerBy x ≡ refusalAnswer why → Replied x r r (relocked must becomes kind n (view r))
+  unfolding relocked
+  relock-refused why h a = refuses _ r why x a (rw (← is, h))
 
-        pub name-done : (v : Lock) (r′ : List ℕ) → Became r′ (changeEntry (putLock v) (m .0) (view r)) → t ≡ turned.Becomes v → answerBy x ≡ answer 0 []
-            → Replied x r r′ (replyTo (cond p (lockName n) (unlockName n)) r)
-        name-done v r′ b g a =
-            says-done onName r ok is name-looks y x (changeEntry (putLock v) n (view r)) nothing r′
-            (name-steps ∙ turn-done (name n) (view r) (known-near n (view r) o e m h) t l there p v et g) a
-            (subst (λ (m : NameNumber). Became r′ (changeEntry (putLock v) (m .0) (view r))) (known-as n (view r) o e m h) b)
+  module _ (what : Lockable) (h : o ≡ Found what) (l : Lock) (el : l ≡ lockOf what (view r)) (b : Bool) (eb : b ≡ isLock must l) where
+    pub relock-wrong : not b ≡ true → answerBy x ≡ answer 20 [] → Replied x r r (relocked must becomes kind n (view r))
+    unfolding relocked refusalAnswer
+    relock-wrong y a = refuses _ r WrongLock x a (rw (← is, h, ← el, ← eb, not-true b y))
 
-  -- ---- the packed table's lock
+    pub relock-done : (r′ : List ℕ) → not b ≡ false → Became r′ (setLock what becomes (view r)) → answerBy x ≡ answer 0 []
+        → Replied x r r′ (relocked must becomes kind n (view r))
+    unfolding relocked answerOf
+    relock-done r′ y d a = rw (← is, h, ← el, ← eb, not-false b y) (record { answer = a; region = became-image r′ _ d })
 
-  abbrev onPacked : Call
-  onPacked = cond p lockPacked unlockPacked
+-- on a good region the call is the model's step
+module _ (kind n : ℕ) (r r′ : List ℕ) (ok : Bool) (is : ok ≡ good r) (y : not ok ≡ false) (x : Verdict) where
+  stepped : (c : Call) → isStart c ≡ false → Replied x r r′ (step c (view r)) → Replied x r r′ (replyTo c r)
+  stepped c looks d = subst (λ (reply : Reply). Replied x r r′ reply) (sym (replies c r ok is looks y)) d
 
-  packed-looks : isStart onPacked ≡ false
-  packed-looks = either-looks p lockPacked unlockPacked refl refl
+  pub placed-so : Replied x r r′ (relocked Free Foreign kind n (view r)) → Replied x r r′ (replyTo (placeLock kind n) r)
+  unfolding step placed
+  placed-so d = stepped (placeLock kind n) refl d
 
-  packed-steps : step onPacked (view r) ≡ turning packedTable (view r) p
-  unfolding step
-  packed-steps = either-steps p lockPacked unlockPacked (view r)
-
-  pub packed-bad : not ok ≡ true → answerBy x ≡ answer 1 [] → Replied x r r (replyTo (cond p lockPacked unlockPacked) r)
-  packed-bad y a = bad-region onPacked r ok is packed-looks x y a
-
-  module _ (y : not ok ≡ false) (t : Turned) (l : Lock) (el : l ≡ view r .packedLock) (et : t ≡ cond p (placedOn l) (liftedFrom l)) where
-    pub packed-no : t ≡ turned.Refused → answerBy x ≡ answer 20 [] → Replied x r r (replyTo (cond p lockPacked unlockPacked) r)
-    unfolding refusalAnswer
-    packed-no g a =
-        says-no onPacked r ok is packed-looks y WrongLock x a (packed-steps ∙ turn-no packedTable (view r) refl t l el p et g)
-
-    pub packed-done : (v : Lock) (r′ : List ℕ) → Became r′ (withPackedLock (view r) v) → t ≡ turned.Becomes v → answerBy x ≡ answer 0 []
-        → Replied x r r′ (replyTo (cond p lockPacked unlockPacked) r)
-    packed-done v r′ b g a =
-        says-done onPacked r ok is packed-looks y x (withPackedLock (view r) v) nothing r′
-        (packed-steps ∙ turn-done packedTable (view r) refl t l el p v et g) a b
+  pub lifted-so : Replied x r r′ (relocked Foreign Free kind n (view r)) → Replied x r r′ (replyTo (liftLock kind n) r)
+  unfolding step lifted
+  lifted-so d = stepped (liftLock kind n) refl d

@@ -9,7 +9,7 @@ use Rattle.model.specs.Outcome.Outcome.{refuse, pass}
 use Rattle.model.specs.Prepare.{rowsFor}
 use Rattle.model.specs.Fine.{Fine}
 use Rattle.model.specs.Reply.{Call}
-use Rattle.model.specs.Reply.Call.{start, addName, nameBytes, loadLoose, loadPacked, lockName, unlockName, lockPacked, unlockPacked, prepare, commit, rollback, readName, readLine, readRow}
+use Rattle.model.specs.Reply.Call.{start, addName, nameBytes, loadLoose, loadPacked, placeLock, liftLock, prepare, commit, rollback, readName, readLine, readRow}
 use Rattle.model.specs.Calls.{rowsPrepared, step}
 use Rattle.model.specs.Reached.{Sound, leaves}
 use Rattle.model.specs.Reached.Reached.{begun, after}
@@ -28,10 +28,8 @@ module _ (P : Store → Type 0) (rule : Rule P) (s : Store) (here : P s) (prepar
   call-kept (nameBytes n) = simple.nameBytes-kept P rule s here n
   call-kept (loadLoose n kind x) = simple.loadLoose-kept P rule s here n kind x
   call-kept (loadPacked n kind x) = simple.loadPacked-kept P rule s here n kind x
-  call-kept (lockName n) = simple.lockName-kept P rule s here n
-  call-kept (unlockName n) = simple.unlockName-kept P rule s here n
-  call-kept lockPacked = simple.lockPacked-kept P rule s here
-  call-kept unlockPacked = simple.unlockPacked-kept P rule s here
+  call-kept (placeLock kind n) = simple.placeLock-kept P rule s here kind n
+  call-kept (liftLock kind n) = simple.liftLock-kept P rule s here kind n
   call-kept (prepare list mode) = prepares list mode
   call-kept (commit c k) = commit-kept P rule s here c k
   call-kept rollback = simple.rollback-kept P rule s here

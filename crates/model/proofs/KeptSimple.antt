@@ -15,6 +15,8 @@ use Rattle.model.specs.declared.Loose.{Loose}
 use Rattle.model.specs.declared.Packed.{Packed}
 use Rattle.model.specs.declared.Lock.{Lock}
 use Rattle.model.specs.declared.Lock.the-variants.{Free, Foreign, Ours}
+use Rattle.model.specs.declared.Lockable.{Lockable}
+use Rattle.model.specs.declared.Lockable.the-variants.{Name, PackedTable}
 use Rattle.model.specs.declared.WriteReflog.{WriteReflog}
 use Rattle.model.specs.declared.Refusal.{Refusal}
 use Rattle.model.specs.declared.Refusal.the-variants.{Malformed}
@@ -24,11 +26,10 @@ use Rattle.model.specs.Outcome.{Outcome, refuseIf, orRefuse}
 use Rattle.model.specs.Outcome.Outcome.{refuse, pass}
 use Rattle.model.specs.Fine.{Fine, apartNames, fineEntry, fineLoose, finePacked}
 use Rattle.model.specs.Reply.{Reply, _>>=_, _>>_, known, idle}
-use Rattle.model.specs.Reply.Call.{start, addName, nameBytes, loadLoose, loadPacked, lockName, unlockName, lockPacked, unlockPacked, rollback, readName, readLine, readRow}
+use Rattle.model.specs.Reply.Call.{start, addName, nameBytes, loadLoose, loadPacked, placeLock, liftLock, rollback, readName, readLine, readRow}
 use Rattle.model.specs.Beneath.{isLoose, lies, looseAbove, looseBeneath}
 use Rattle.model.specs.Commit.{released}
-use Rattle.model.specs.Load.{Lockable, settingOf, looseOf, packedOf, numberFrom, newEntry, addedAs, knownLock, lockOf, setLock, started, nameAdded, bytesGiven, nests, looseLoaded, packedLoaded, placed, lifted}
-use Rattle.model.specs.Load.Lockable.{name as ofName, packedTable}
+use Rattle.model.specs.Load.{settingOf, looseOf, packedOf, numberFrom, newEntry, addedAs, lockable, lockOf, setLock, started, nameAdded, bytesGiven, nests, looseLoaded, packedLoaded, relocked, placed, lifted}
 use Rattle.model.specs.Calls.{rolledBack, nameRead, lineRead, rowRead, step}
 use Rattle.model.specs.Reached.{leaves, Sound}
 use Rattle.model.proofs.Binds.{not-prepared}
@@ -276,41 +277,44 @@ module _ (P : Store → Type 0) (rule : Rule P) (s : Store) (here : P s) where
   locked : (l : Lockable) (old new : Lock) → isLock Ours old ≡ false → isLock Ours new ≡ false → isLock old (lockOf l s) ≡ true
       → P (setLock l new s)
   unfolding fineEntry
-  locked (ofName n) old new p q e =
-      rule .alike s (changeEntry (putLock new) n s) here
+  locked (Name n) old new p q e =
+      rule .alike s (changeEntry (putLock new) (n .0) s) here
       record {
         lines = refl;
         setting = refl;
-        name = λ m h. changed-keeps (λ x. x .name) (putLock new) n m (s .entries) refl;
-        loose = λ m. changed-keeps (λ x. x .loose) (putLock new) n m (s .entries) refl;
-        packed = λ m. changed-keeps (λ x. x .packed) (putLock new) n m (s .entries) refl;
+        name = λ m h. changed-keeps (λ x. x .name) (putLock new) (n .0) m (s .entries) refl;
+        loose = λ m. changed-keeps (λ x. x .loose) (putLock new) (n .0) m (s .entries) refl;
+        packed = λ m. changed-keeps (λ x. x .packed) (putLock new) (n .0) m (s .entries) refl;
       }
       record {
         prepared = refl;
         grown = rw changed-count (omega arith);
-        lock = λ m. changed-keeps (λ x. isLock Ours (x .lock)) (putLock new) n m (s .entries) (not-ours old new (entryAt s n .lock) p q e);
+        lock = λ m. changed-keeps (λ x. isLock Ours (x .lock)) (putLock new) (n .0) m (s .entries) (not-ours old new (entryAt s (n .0) .lock) p q e);
         packedLock = refl;
       }
-      (base-entry s (putLock new) n rules refl (λ h. rules .entries n h))
-  locked packedTable old new p q e =
+      (base-entry s (putLock new) (n .0) rules refl (λ h. rules .entries (n .0) h))
+  locked PackedTable old new p q e =
       rule .alike s (withPackedLock s new) here
       record { lines = refl; setting = refl; name = λ m h. refl; loose = λ m. refl; packed = λ m. refl }
       record { prepared = refl; grown = omega arith; lock = λ m. refl; packedLock = not-ours old new (s .packedLock) p q e }
       record { few = rules .few; entries = rules .entries; apart = rules .apart; short = rules .short; lines = rules .lines }
 
-  placed-kept : (l : Lockable) → P (leaves (placed l s) s)
-  unfolding placed
-  placed-kept l =
-      passed P s here (knownLock l s) _ (λ u e.
-      past (not (isLock Free (lockOf l s))) _ _ (λ h.
-      locked l Free Foreign refl refl (not-false _ h)))
+  -- a lock of another program's, turned from what is not ours to what is not
+  relocked-kept : (must becomes : Lock) (kind n : ℕ) → isLock Ours must ≡ false → isLock Ours becomes ≡ false
+      → P (leaves (relocked must becomes kind n s) s)
+  unfolding relocked
+  relocked-kept must becomes kind n p q =
+      passed P s here (lockable kind n s) _ (λ what e.
+      past (not (isLock must (lockOf what s))) _ _ (λ h.
+      locked what must becomes p q (not-false _ h)))
 
-  lifted-kept : (l : Lockable) → P (leaves (lifted l s) s)
-  unfolding lifted
-  lifted-kept l =
-      passed P s here (knownLock l s) _ (λ u e.
-      past (not (isLock Foreign (lockOf l s))) _ _ (λ h.
-      locked l Foreign Free refl refl (not-false _ h)))
+  pub placeLock-kept : (kind n : ℕ) → P (leaves (step (placeLock kind n) s) s)
+  unfolding step placed
+  placeLock-kept kind n = relocked-kept Free Foreign kind n refl refl
+
+  pub liftLock-kept : (kind n : ℕ) → P (leaves (step (liftLock kind n) s) s)
+  unfolding step lifted
+  liftLock-kept kind n = relocked-kept Foreign Free kind n refl refl
 
   -- ---- names
 
@@ -340,19 +344,3 @@ module _ (P : Store → Type 0) (rule : Rule P) (s : Store) (here : P s) where
       go : isName bytes ≡ true → (o : Option ℕ) → numberFrom 0 bytes (s .entries) ≡ o → P (leaves (addedAs bytes s o) s)
       go e none q = past (leb 256 (count s)) _ _ (λ h. added bytes e q (leb-false 256 (count s) h))
       go e (some n) q = here
-
-  pub lockName-kept : (n : ℕ) → P (leaves (step (lockName n) s) s)
-  unfolding step
-  lockName-kept n = placed-kept (ofName n)
-
-  pub unlockName-kept : (n : ℕ) → P (leaves (step (unlockName n) s) s)
-  unfolding step
-  unlockName-kept n = lifted-kept (ofName n)
-
-  pub lockPacked-kept : P (leaves (step lockPacked s) s)
-  unfolding step
-  lockPacked-kept = placed-kept packedTable
-
-  pub unlockPacked-kept : P (leaves (step unlockPacked s) s)
-  unfolding step
-  unlockPacked-kept = lifted-kept packedTable

@@ -38,3 +38,4 @@ pub mod Logs
 pub mod Prefixes
 pub mod Demand3
 pub mod Where
+pub mod Locks

@@ -1,4 +1,4 @@
--- Transactions and reads, and the step: the 15 calls as one function.
+-- Transactions and reads, and the step: the 13 calls as one function.
 use mathlib.Core.Bool.{true, not}
 use mathlib.Core.List.{List}
 use mathlib.Core.Option.{Option, none, some}
@@ -15,11 +15,10 @@ use Rattle.model.specs.Outcome.{refuseIf}
 use Rattle.model.specs.Prepare.{existingFound, rowsFor, held}
 use Rattle.model.specs.Commit.{Run, Stop, committing, released}
 use Rattle.model.specs.Reply.{Call, Reply, _>>=_, _>>_, known}
-use Rattle.model.specs.Reply.Call.{start, addName, nameBytes, loadLoose, loadPacked, lockName, unlockName, lockPacked, unlockPacked, prepare, commit, rollback, readName, readLine, readRow}
+use Rattle.model.specs.Reply.Call.{start, addName, nameBytes, loadLoose, loadPacked, placeLock, liftLock, prepare, commit, rollback, readName, readLine, readRow}
 use Rattle.model.specs.Reply.Reply.{done, stopped}
 use Rattle.model.specs.Reply.Given.{number, value, line, row}
 use Rattle.model.specs.Load.{started, nameAdded, bytesGiven, looseLoaded, packedLoaded, placed, lifted}
-use Rattle.model.specs.Load.Lockable.{name, packedTable}
 
 -- ---- transactions
 
@@ -75,10 +74,8 @@ step (addName bytes) s = nameAdded bytes s
 step (nameBytes n) s = bytesGiven n s
 step (loadLoose n kind x) s = looseLoaded n kind x s
 step (loadPacked n kind x) s = packedLoaded n kind x s
-step (lockName n) s = placed (name n) s
-step (unlockName n) s = lifted (name n) s
-step lockPacked s = placed packedTable s
-step unlockPacked s = lifted packedTable s
+step (placeLock kind n) s = placed kind n s
+step (liftLock kind n) s = lifted kind n s
 step (prepare list mode) s = rowsPrepared list mode s
 step (commit committer allowance) s = committed committer allowance s
 step rollback s = rolledBack s

@@ -21,3 +21,4 @@ pub mod Reached
 pub mod Demand3
 pub mod Kept
 pub mod Where
+pub mod Locks

@@ -11,14 +11,16 @@ use Rattle.model.specs.declared.Packed.{Packed}
 use Rattle.model.specs.declared.Packed.the-variants as packed
 use Rattle.model.specs.declared.Lock.{Lock}
 use Rattle.model.specs.declared.Lock.the-variants.{Free, Foreign}
+use Rattle.model.specs.declared.Lockable.{Lockable}
+use Rattle.model.specs.declared.Lockable.the-variants.{Name, PackedTable}
 use Rattle.model.specs.declared.WriteReflog.{WriteReflog}
 use Rattle.model.specs.declared.WriteReflog.the-variants.{Disable, Normal, Always}
 use Rattle.model.specs.declared.Refusal.the-variants.{Malformed, NotRegistered, BadName, NamesFull, WrongLock, BadLoad}
 use Rattle.model.specs.Names.{isName, sameBytes, packable}
-use Rattle.model.specs.Store.{Store, Entry, empty, count, entryAt, isLock, isId, isNone, putLoose, putPacked, putLock, changeEntry, withEntries, withPackedLock}
+use Rattle.model.specs.Store.{Store, Entry, empty, count, entryAt, entryOf, isLock, isId, isNone, putLoose, putPacked, putLock, changeEntry, withEntries, withPackedLock}
 use Rattle.model.specs.Beneath.{looseAbove, looseBeneath}
 use Rattle.model.specs.Outcome.{Outcome, refuseIf, orRefuse}
-use Rattle.model.specs.Outcome.Outcome.{pass}
+use Rattle.model.specs.Outcome.Outcome.{refuse, pass}
 use Rattle.model.specs.Reply.{Reply, _>>=_, _>>_, known, idle}
 use Rattle.model.specs.Reply.Reply.{done}
 use Rattle.model.specs.Reply.Given.{nothing, number, bytesOf}
@@ -99,34 +101,33 @@ packedLoaded n kind x s = do
   v ← orRefuse BadLoad (packedOf (entryAt s n .name) kind x)
   done (changeEntry (putPacked v) n s) nothing
 
--- ---- foreign locks
+-- ---- foreign locks: 2, 3, 20
 
--- what has a lock: a name, or the packed table
-pub data Lockable : Type 0 where
-  name : ℕ → Lockable
-  packedTable : Lockable
-
-abbrev pub knownLock : Lockable → Store → Outcome (Unit {0})
-knownLock (name n) s = known n s
-knownLock packedTable s = pass tt
+-- what is locked. Kind 0 a name: 3 where the number is not registered. Kind 1 the packed table: the number is not looked at. 2: another
+-- kind
+abbrev pub lockable : ℕ → ℕ → Store → Outcome Lockable
+lockable zero n s = cond (ltb n (count s)) (pass (Name (record { 0 = n }))) (refuse (NotRegistered n))
+lockable (suc zero) n s = pass PackedTable
+lockable (suc (suc k)) n s = refuse Malformed
 
 abbrev pub lockOf : Lockable → Store → Lock
-lockOf (name n) s = entryAt s n .lock
-lockOf packedTable s = s .packedLock
+lockOf (Name n) s = entryOf s n .lock
+lockOf PackedTable s = s .packedLock
 
 abbrev pub setLock : Lockable → Lock → Store → Store
-setLock (name n) l s = changeEntry (putLock l) n s
-setLock packedTable l s = withPackedLock s l
+setLock (Name n) l s = changeEntry (putLock l) (n .0) s
+setLock PackedTable l s = withPackedLock s l
 
--- 20: placing a lock that is not free, lifting one not foreign
-unfoldable pub placed : Lockable → Store → Reply
-placed l s = do
-  knownLock l s
-  refuseIf (not (isLock Free (lockOf l s))) WrongLock
-  done (setLock l Foreign s) nothing
+-- 20: a lock that is not what it must be
+unfoldable pub relocked : Lock → Lock → ℕ → ℕ → Store → Reply
+relocked must becomes kind n s = do
+  what ← lockable kind n s
+  refuseIf (not (isLock must (lockOf what s))) WrongLock
+  done (setLock what becomes s) nothing
 
-unfoldable pub lifted : Lockable → Store → Reply
-lifted l s = do
-  knownLock l s
-  refuseIf (not (isLock Foreign (lockOf l s))) WrongLock
-  done (setLock l Free s) nothing
+-- placing makes a free lock foreign, lifting a foreign one free
+unfoldable pub placed : ℕ → ℕ → Store → Reply
+placed kind n s = relocked Free Foreign kind n s
+
+unfoldable pub lifted : ℕ → ℕ → Store → Reply
+lifted kind n s = relocked Foreign Free kind n s

@@ -20,10 +20,8 @@ pub data Call : Type 0 where
   nameBytes : ℕ → Call
   loadLoose : ℕ → ℕ → ℕ → Call
   loadPacked : ℕ → ℕ → ℕ → Call
-  lockName : ℕ → Call
-  unlockName : ℕ → Call
-  lockPacked : Call
-  unlockPacked : Call
+  placeLock : ℕ → ℕ → Call
+  liftLock : ℕ → ℕ → Call
   prepare : List ℕ → ℕ → Call
   commit : ℕ → ℕ → Call
   rollback : Call

@@ -23,6 +23,19 @@ pub enum Lock {
     Ours,
 }
 
+// What has a lock.
+pub enum Lockable {
+    Name(NameNumber),
+    PackedTable,
+}
+
+// The kind that a caller passes.
+impl Lockable {
+    pub const NAME: u64 = 0;
+
+    pub const PACKED_TABLE: u64 = 1;
+}
+
 // The log setting, fixed at the start.
 pub enum WriteReflog {
     Disable,

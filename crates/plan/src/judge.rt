@@ -1,5 +1,6 @@
 // What the calls left, against what is recorded.
 use asks::Call;
+use asks::Kind;
 use lent::At;
 use lent::Region;
 use notes::Note;
@@ -42,29 +43,29 @@ fn rows(notes: &mut Notes) {
 // ---- locks
 
 // A lock is what it is to be, as the calls that place and lift it tell. What they change they change back.
-fn lock_by(lock: u64, place: u64, lift: u64, name: u64, notes: &mut Notes) {
+fn lock_by(lock: u64, kind: u64, number: u64, notes: &mut Notes) {
     if lock == 0 {
-        asks::ask(notes, lift, name, 0, 0, WRONG_LOCK);
-        asks::ask(notes, place, name, 0, 0, 0);
-        asks::ask(notes, lift, name, 0, 0, 0);
+        asks::ask(notes, Call::LIFT_LOCK, kind, number, 0, WRONG_LOCK);
+        asks::ask(notes, Call::PLACE_LOCK, kind, number, 0, 0);
+        asks::ask(notes, Call::LIFT_LOCK, kind, number, 0, 0);
     } else if lock == 1 {
-        asks::ask(notes, place, name, 0, 0, WRONG_LOCK);
-        asks::ask(notes, lift, name, 0, 0, 0);
-        asks::ask(notes, place, name, 0, 0, 0);
+        asks::ask(notes, Call::PLACE_LOCK, kind, number, 0, WRONG_LOCK);
+        asks::ask(notes, Call::LIFT_LOCK, kind, number, 0, 0);
+        asks::ask(notes, Call::PLACE_LOCK, kind, number, 0, 0);
     } else {
-        asks::ask(notes, place, name, 0, 0, WRONG_LOCK);
-        asks::ask(notes, lift, name, 0, 0, WRONG_LOCK);
+        asks::ask(notes, Call::PLACE_LOCK, kind, number, 0, WRONG_LOCK);
+        asks::ask(notes, Call::LIFT_LOCK, kind, number, 0, WRONG_LOCK);
     }
 }
 
 fn lock(name: u64, notes: &mut Notes) {
     let lock = notes::of_name(notes, Note::LOCK, name);
-    lock_by(lock, Call::LOCK_NAME, Call::UNLOCK_NAME, name, notes);
+    lock_by(lock, Kind::NAME, name, notes);
 }
 
 fn packed_lock(notes: &mut Notes) {
     let lock = notes[Note::PACKED_LOCK];
-    lock_by(lock, Call::LOCK_PACKED, Call::UNLOCK_PACKED, 0, notes);
+    lock_by(lock, Kind::PACKED_TABLE, 0, notes);
 }
 
 // ---- the store

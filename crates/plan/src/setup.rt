@@ -1,5 +1,6 @@
 // The store of a case, made by calls. Each of them is done, or the case differs.
 use asks::Call;
+use asks::Kind;
 use notes::Note;
 use notes::Notes;
 
@@ -49,7 +50,7 @@ fn load(name: u64, notes: &mut Notes) {
     load_loose(name, notes);
     load_packed(name, notes);
     if notes::of_name(notes, Note::LOCK, name) != 0 {
-        asks::ask(notes, Call::LOCK_NAME, name, 0, 0, 0);
+        asks::ask(notes, Call::PLACE_LOCK, Kind::NAME, name, 0, 0);
     }
 }
 
@@ -61,7 +62,7 @@ fn load_all(notes: &mut Notes) {
         load(left, notes);
     }
     if notes[Note::PACKED_LOCK] != 0 {
-        asks::ask(notes, Call::LOCK_PACKED, 0, 0, 0, 0);
+        asks::ask(notes, Call::PLACE_LOCK, Kind::PACKED_TABLE, 0, 0, 0);
     }
 }
 

@@ -1,6 +1,7 @@
 // Calls that no recorded case makes, since the Rust has nothing that answers as they do: what docs/SPEC.md says of them. They are asked
 // for in stages, behind the last case: a stage's calls are made before the next stage begins.
 use asks::Call;
+use asks::Kind;
 use lent::Region;
 use lines::Line;
 use notes::Note;
@@ -73,7 +74,18 @@ fn no_names(notes: &mut Notes) {
     is(notes, Call::NAME_BYTES, 3, 0, 0, 3, 3);
     is(notes, Call::READ_NAME, 65536, 0, 0, 3, 65536);
     is(notes, Call::READ_LINE, 65536, 0, 0, 3, 65536);
-    is(notes, Call::LOCK_NAME, 3, 0, 0, 3, 3);
+    is(notes, Call::PLACE_LOCK, Kind::NAME, 3, 0, 3, 3);
+    is(notes, Call::LIFT_LOCK, Kind::NAME, 65536, 0, 3, 65536);
+    lock_kinds(notes);
+}
+
+// A kind of lock that is neither is refused before the number is looked at. Beside the packed table no number is.
+fn lock_kinds(notes: &mut Notes) {
+    is(notes, Call::PLACE_LOCK, 2, 3, 0, 2, 0);
+    is(notes, Call::LIFT_LOCK, u64::MAX, 3, 0, 2, 0);
+    is(notes, Call::PLACE_LOCK, Kind::PACKED_TABLE, 65536, 0, 0, 0);
+    is(notes, Call::PLACE_LOCK, Kind::PACKED_TABLE, 0, 0, 20, 0);
+    is(notes, Call::LIFT_LOCK, Kind::PACKED_TABLE, 256, 0, 0, 0);
 }
 
 // ---- loads

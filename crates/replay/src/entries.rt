@@ -12,10 +12,8 @@ fn change(region: &mut Region, call: u64, a: u64, b: u64, c: u64, answer: &mut A
         Call::START => dehlbazin::dehlbazin_start(region, a, answer),
         Call::LOAD_LOOSE => dehlbazin::dehlbazin_load_loose(region, a, b, c, answer),
         Call::LOAD_PACKED => dehlbazin::dehlbazin_load_packed(region, a, b, c, answer),
-        Call::LOCK_NAME => dehlbazin::dehlbazin_lock_name(region, a, answer),
-        Call::UNLOCK_NAME => dehlbazin::dehlbazin_unlock_name(region, a, answer),
-        Call::LOCK_PACKED => dehlbazin::dehlbazin_lock_packed(region, answer),
-        Call::UNLOCK_PACKED => dehlbazin::dehlbazin_unlock_packed(region, answer),
+        Call::PLACE_LOCK => dehlbazin::dehlbazin_place_lock(region, a, b, answer),
+        Call::LIFT_LOCK => dehlbazin::dehlbazin_lift_lock(region, a, b, answer),
         Call::COMMIT => dehlbazin::dehlbazin_commit(region, a, b, answer),
         _ => dehlbazin::dehlbazin_rollback(region, answer),
     }

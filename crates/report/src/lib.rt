@@ -74,22 +74,23 @@ fn say_word(table: &[u8], word: u64) {
     }
 }
 
-// A number that a call gave is the one that it was to give, or the case differs. Place 16 is the number that it returned.
-pub fn gave(notes: &mut Notes, call: u64, of: u64, place: u64, expected: u64, found: u64) {
+// A number that a call with these two first numbers gave is the one that it was to give, or the case differs. Place 16 is the number that it returned.
+pub fn gave(notes: &mut Notes, call: u64, a: u64, b: u64, place: u64, expected: u64, found: u64) {
     if expected != found {
         say_where(notes, b"");
         say_word(
-            b"start load_loose load_packed lock_name unlock_name lock_packed unlock_packed commit rollback name_bytes read_name read_line read_row add_name prepare ",
+            b"start load_loose load_packed place_lock lift_lock commit rollback name_bytes read_name read_line read_row add_name prepare ",
             call,
         );
-        say_place(of, place);
+        say_place(a, b, place);
         say_both(expected, found);
         notes[Note::SEEN] = 1;
     }
 }
 
-fn say_place(of: u64, place: u64) {
-    say::number(b" ", of);
+fn say_place(a: u64, b: u64, place: u64) {
+    say::number(b" ", a);
+    say::number(b" ", b);
     if place < 16 {
         say::number(b", place ", place);
     }

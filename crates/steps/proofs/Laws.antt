@@ -27,7 +27,6 @@ use Rattle.model.specs.declared.Loose.the-variants as loose
 use Rattle.model.specs.declared.Packed.{Packed}
 use Rattle.model.specs.Read.{packedSeen, foundIn, foundOf, valueOf}
 use Rattle.model.specs.declared.Lock.{Lock}
-use Rattle.model.specs.declared.Lock.the-variants.{Free, Foreign}
 use Rattle.model.specs.declared.Packed.the-variants as packed
 use Rattle.model.specs.declared.Line.{Line}
 use Rattle.model.specs.Basic.{select}
@@ -36,8 +35,7 @@ use Rattle.model.specs.Store.{Store, Entry, noEntry, noLine, count, isId, isOf,
 use Rattle.model.specs.Load.{numberFrom}
 use Rattle.model.specs.Commit.{freed, released}
 use Rattle.region.specs.Region.{view, Laid, Became}
-use Rattle.steps.specs.declared.Turned.the-variants as turned
-use Rattle.steps.specs.Steps.{packedBy, placedOn, liftedFrom, freeNames, lineAmong, leftAfter}
+use Rattle.steps.specs.Steps.{packedBy, freeNames, lineAmong, leftAfter}
 
 -- one element more
 next : {A : Type 0} (xs : List A) (d : A) (i n : ℕ) → n ≡ length xs → i < n → drop i xs ≡ getD xs i d ∷ drop (i + 1) xs
@@ -108,14 +106,6 @@ pub packed-other : (b : Bool) (k x : ℕ) → (k ≡ 0 → ⊥) → (k ≡ 1 →
 packed-other b zero x p q = absurd (p refl)
 packed-other b (suc zero) x p q = absurd (q refl)
 packed-other b (suc (suc k)) x p q = refl
-
--- ---- foreign locks
-
-pub placed-free : (l : Lock) → l ≡ Free → turned.Becomes Foreign ≡ placedOn l
-placed-free l e = rw e
-
-pub lifted-foreign : (l : Lock) → l ≡ Foreign → turned.Becomes Free ≡ liftedFrom l
-lifted-foreign l e = rw e
 
 -- ---- locks freed, name by name
 

@@ -7,8 +7,6 @@ use lib.ListN.{length, getD}
 use lib.Dec.{eqb, ltb}
 use Rattle.target.specs.declared.OptionName.{OptionName}
 use Rattle.target.specs.declared.OptionName.the-variants.{NoName, Name}
-use Rattle.model.specs.declared.Lock.{Lock}
-use Rattle.model.specs.declared.Lock.the-variants.{Free, Foreign, Ours}
 use Rattle.model.specs.declared.Packed.{Packed}
 use Rattle.model.specs.declared.Packed.the-variants as packed
 use Rattle.model.specs.declared.Line.{Line}
@@ -18,8 +16,6 @@ use Rattle.model.specs.Store.{Store, Entry, noLine, isId, putLock, changeEntry}
 use Rattle.model.specs.Commit.{freed}
 use Rattle.steps.specs.declared.OptionPacked.{OptionPacked}
 use Rattle.steps.specs.declared.OptionPacked.the-variants as optionPacked
-use Rattle.steps.specs.declared.Turned.{Turned}
-use Rattle.steps.specs.declared.Turned.the-variants as turned
 
 -- ---- names
 
@@ -39,16 +35,6 @@ packedOption optionPacked.NoPacked = none
 packedOption (optionPacked.Packed v) = some v
 
 -- ---- locks
-
-abbrev pub placedOn : Lock → Turned
-placedOn Free = turned.Becomes Foreign
-placedOn Foreign = turned.Refused
-placedOn Ours = turned.Refused
-
-abbrev pub liftedFrom : Lock → Turned
-liftedFrom Free = turned.Refused
-liftedFrom Foreign = turned.Becomes Free
-liftedFrom Ours = turned.Refused
 
 -- the first k names' locks freed
 unfoldable pub freeNames : ℕ → Store → Store

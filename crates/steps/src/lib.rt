@@ -7,7 +7,7 @@ ghost use Rattle.model.specs.Read.{packedSeen, foundIn, foundOf, valueOf};
 ghost use Rattle.model.specs.Commit.{freed, released};
 ghost use Rattle.model.specs.Load.{numberFrom};
 ghost use Rattle.region.specs.Region.{view, Laid, Became};
-ghost use Rattle.steps.specs.Steps.{foundOption, packedBy, packedOption, placedOn, liftedFrom, freeNames};
+ghost use Rattle.steps.specs.Steps.{foundOption, packedBy, packedOption, freeNames};
 ghost use Rattle.steps.specs.Steps.{lineOption, lineAmong, leftAfter};
 use model::Lock;
 use model::Loose;
@@ -73,32 +73,6 @@ pub fn packed_of(packable: bool, kind: u64, number: u64) -> OptionPacked
 }
 
 // ---- locks
-
-// What a lock becomes: placed where it is free, lifted where it is foreign.
-pub enum Turned {
-    Refused,
-    Becomes(Lock),
-}
-
-pub fn place_on(lock: Lock) -> Turned
-    ensures { λ r. ⌜ r ≡ placedOn lock ⌝ }
-{
-    match lock {
-        Lock::Free => Turned::Becomes(Lock::Foreign),
-        Lock::Foreign => Turned::Refused,
-        Lock::Ours => Turned::Refused,
-    }
-}
-
-pub fn lift_from(lock: Lock) -> Turned
-    ensures { λ r. ⌜ r ≡ liftedFrom lock ⌝ }
-{
-    match lock {
-        Lock::Free => Turned::Refused,
-        Lock::Foreign => Turned::Becomes(Lock::Free),
-        Lock::Ours => Turned::Refused,
-    }
-}
 
 pub fn freed_lock(lock: Lock) -> Lock
     ensures { λ r. ⌜ r ≡ freed lock ⌝ }

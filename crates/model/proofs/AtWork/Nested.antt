@@ -6,7 +6,7 @@ use Prim.Native.Nat.{ℕ}
 use Rattle.model.specs.Basic.{text}
 use Rattle.model.specs.Writes.Write.{writePacked}
 use Rattle.model.specs.Reply.{Call}
-use Rattle.model.specs.Reply.Call.{start, addName, loadLoose, loadPacked, lockName, prepare, commit, readName}
+use Rattle.model.specs.Reply.Call.{start, addName, loadLoose, loadPacked, placeLock, prepare, commit, readName}
 use Rattle.model.specs.Numbers.{answer}
 use Rattle.model.proofs.AtWork.Cases.{Case, Right, HEAD, blank, update, delete, through, logOnly, expecting, object, link, list, logMoves, packedBecomes, _⇒_, inOrder}
 use Rattle.model.proofs.AtWork.Open.{open-all}
@@ -203,7 +203,7 @@ packedBeneath =
     ∷ record {
       title = "25 comes before 8 and before 9 to 13 in a row's turn, and after an earlier row's";
       store = blank;
-      made = names ++ (loadLoose a 1 5 ∷ lockName b ∷ []);
+      made = names ++ (loadLoose a 1 5 ∷ placeLock 0 b ∷ []);
       lines =
           prepare (list (expecting 2 (delete b) ∷ [])) 1 ⇒ answer 25 (b ∷ [])
           ∷ prepare (list (expecting 2 (delete ab) ∷ delete b ∷ [])) 1 ⇒ answer 13 (ab ∷ [])

@@ -13,11 +13,11 @@ use Rattle.model.specs.Prepare.{registered, opening, turned, turn, turns
 use Rattle.model.specs.Writes.{w1, w2, packedEdit, w3, w4, orderedWrites, apply}
 use Rattle.model.specs.Commit.{released, run, committing}
 use Rattle.model.specs.Fine.{fineEntry, fineLine, fineRow, keptFor, fineLock, aloneLoose, clearRow, fineNames, fineLines, fineRows, fineLocks, fineRoom, fineNests, fine}
-use Rattle.model.specs.Load.{started, nameAdded, bytesGiven, nests, looseLoaded, packedLoaded, placed, lifted}
+use Rattle.model.specs.Load.{started, nameAdded, bytesGiven, nests, looseLoaded, packedLoaded, relocked, placed, lifted}
 use Rattle.model.specs.Calls.{rowsPrepared, committed, rolledBack, nameRead, lineRead, rowFound, rowRead, step}
 use Rattle.model.specs.Numbers.{refusalAnswer, answerOf}
 use Rattle.model.proofs.AtWork.Cases.{list}
 
 unfoldable pub open-all : Unit {0}
-unfolding val valOn be beOn below beneath isSpecial isComponent isRef isName packable logs linesOf reading ancestors topmost counts opens isDirect keepsLock looseAbove looseBeneath wouldWrite meetsEarlier conflicts editOf editsFrom isFramed editsOf numbersOf referent settleAll rounds splits oneNameOneEdit isLogged dueLine registered opening turned turn turnsFrom rowsFor held w1 w2 packedEdit w3 w4 orderedWrites apply released run committing fineEntry fineLine fineRow keptFor fineLock aloneLoose clearRow fineNames fineLines fineRows fineLocks fineRoom fineNests fine started nameAdded bytesGiven nests looseLoaded packedLoaded placed lifted rowsPrepared committed rolledBack nameRead lineRead rowFound rowRead step refusalAnswer answerOf list
+unfolding val valOn be beOn below beneath isSpecial isComponent isRef isName packable logs linesOf reading ancestors topmost counts opens isDirect keepsLock looseAbove looseBeneath wouldWrite meetsEarlier conflicts editOf editsFrom isFramed editsOf numbersOf referent settleAll rounds splits oneNameOneEdit isLogged dueLine registered opening turned turn turnsFrom rowsFor held w1 w2 packedEdit w3 w4 orderedWrites apply released run committing fineEntry fineLine fineRow keptFor fineLock aloneLoose clearRow fineNames fineLines fineRows fineLocks fineRoom fineNests fine started nameAdded bytesGiven nests looseLoaded packedLoaded relocked placed lifted rowsPrepared committed rolledBack nameRead lineRead rowFound rowRead step refusalAnswer answerOf list
 open-all = tt

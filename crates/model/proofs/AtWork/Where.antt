@@ -5,7 +5,7 @@ use mathlib.Core.List.{List, [], _∷_, _++_}
 use Prim.Native.Nat.{ℕ}
 use Rattle.model.specs.Basic.{text}
 use Rattle.model.specs.Reply.{Call}
-use Rattle.model.specs.Reply.Call.{start, addName, loadLoose, loadPacked, lockName, prepare, commit, rollback, readName, readRow}
+use Rattle.model.specs.Reply.Call.{start, addName, loadLoose, loadPacked, placeLock, prepare, commit, rollback, readName, readRow}
 use Rattle.model.specs.Numbers.{answer}
 use Rattle.model.proofs.AtWork.Cases.{Case, Right, Wish, HEAD, blank, update, delete, through, logOnly, object, list, _⇒_}
 use Rattle.model.proofs.AtWork.Open.{open-all}
@@ -168,7 +168,7 @@ split =
       made = valued ++ (prepare (list (through (update HEAD (object 7)) ∷ [])) 1 ∷ []);
       lines =
           addName (text "refs/heads/new") ⇒ answer 0 (6 ∷ [])
-          ∷ lockName none ⇒ answer 0 []
+          ∷ placeLock 0 none ⇒ answer 0 []
           ∷ readRow 0 ⇒ answer 0 (HEAD ∷ 1 ∷ 1 ∷ 0 ∷ 3 ∷ 3 ∷ 2 ∷ bent ∷ 1 ∷ 7 ∷ 0 ∷ 0 ∷ 13 ∷ 1 ∷ [])
           ∷ readRow 1 ⇒ answer 0 (bent ∷ 1 ∷ 0 ∷ 0 ∷ 3 ∷ 3 ∷ 1 ∷ 13 ∷ 1 ∷ 7 ∷ 1 ∷ 0 ∷ 0 ∷ 3 ∷ [])
           ∷ commit 1 100 ⇒ answer 0 (3 ∷ [])

@@ -10,7 +10,7 @@ use Rattle.model.specs.Basic.{text}
 use Rattle.model.specs.Store.{Store, Entry, withEntries, withLines}
 use Rattle.model.specs.Writes.Write.{writePacked}
 use Rattle.model.specs.Reply.{Call}
-use Rattle.model.specs.Reply.Call.{start, addName, nameBytes, loadLoose, loadPacked, lockName, unlockName, lockPacked, unlockPacked, prepare, commit, rollback, readName, readLine, readRow}
+use Rattle.model.specs.Reply.Call.{start, addName, nameBytes, loadLoose, loadPacked, placeLock, liftLock, prepare, commit, rollback, readName, readLine, readRow}
 use Rattle.model.specs.Load.{newEntry}
 use Rattle.model.specs.Numbers.{answer}
 use Rattle.model.proofs.AtWork.Cases.{Case, Right, HEAD, aisle, site, blank, update, delete, through, logOnly, expecting, matching, object, link, list, logMoves, looseBecomes, looseGoes, logGoes, packedBecomes, packedGoes, the, to, _⇒_, inOrder, atEveryStop}
@@ -99,7 +99,7 @@ worked =
     ∷ record {
       title = "7: a foreign packed lock, with a counting row and nothing packed; HEAD does not count";
       store = blank;
-      made = site ++ (lockPacked ∷ []);
+      made = site ++ (placeLock 1 0 ∷ []);
       lines =
           prepare (list (update aisle (object 7) ∷ [])) 1 ⇒ answer 7 []
           ∷ prepare (list (update HEAD (object 7) ∷ [])) 3 ⇒ answer 0 (1 ∷ [])
@@ -108,11 +108,11 @@ worked =
     ∷ record {
       title = "8: the lock of the aisle is foreign, and HEAD, through which it was reached, is named";
       store = blank;
-      made = site ++ (lockName aisle ∷ []);
+      made = site ++ (placeLock 0 aisle ∷ []);
       lines =
           prepare (list (through (update HEAD (object 7)) ∷ [])) 1 ⇒ answer 8 (HEAD ∷ [])
           ∷ prepare (list (expecting 2 (delete aisle) ∷ [])) 1 ⇒ answer 8 (aisle ∷ [])
-          ∷ unlockName aisle ⇒ answer 0 []
+          ∷ liftLock 0 aisle ⇒ answer 0 []
           ∷ prepare (list (expecting 2 (delete aisle) ∷ [])) 1 ⇒ answer 13 (aisle ∷ [])
           ∷ [];
     }
@@ -154,7 +154,7 @@ worked =
           ∷ loadLoose 9 0 0 ⇒ answer 15 []
           ∷ loadPacked 9 0 0 ⇒ answer 15 []
           ∷ addName (text "refs/heads/Bay") ⇒ answer 0 (bay ∷ [])
-          ∷ lockName bay ⇒ answer 0 []
+          ∷ placeLock 0 bay ⇒ answer 0 []
           ∷ [];
     }
     ∷ record {
@@ -202,15 +202,32 @@ worked =
           ∷ [];
     }
     ∷ record {
+      title = "2: a kind of lock that is neither, before 3; beside the packed table no number is looked at, and no name is meant";
+      store = blank;
+      made = site;
+      lines =
+          placeLock 2 9 ⇒ answer 2 []
+          ∷ liftLock 2 aisle ⇒ answer 2 []
+          ∷ placeLock 0 9 ⇒ answer 3 (9 ∷ [])
+          ∷ liftLock 0 9 ⇒ answer 3 (9 ∷ [])
+          ∷ placeLock 1 9 ⇒ answer 0 []
+          ∷ placeLock 1 aisle ⇒ answer 20 []
+          ∷ liftLock 0 aisle ⇒ answer 20 []
+          ∷ placeLock 0 aisle ⇒ answer 0 []
+          ∷ liftLock 1 256 ⇒ answer 0 []
+          ∷ liftLock 0 aisle ⇒ answer 0 []
+          ∷ [];
+    }
+    ∷ record {
       title = "20: placing a lock that is not free, lifting one that is not foreign";
       store = blank;
-      made = site ++ (lockName HEAD ∷ lockPacked ∷ []);
+      made = site ++ (placeLock 0 HEAD ∷ placeLock 1 0 ∷ []);
       lines =
-          lockName HEAD ⇒ answer 20 []
-          ∷ unlockName aisle ⇒ answer 20 []
-          ∷ lockPacked ⇒ answer 20 []
-          ∷ unlockPacked ⇒ answer 0 []
-          ∷ unlockPacked ⇒ answer 20 []
+          placeLock 0 HEAD ⇒ answer 20 []
+          ∷ liftLock 0 aisle ⇒ answer 20 []
+          ∷ placeLock 1 0 ⇒ answer 20 []
+          ∷ liftLock 1 0 ⇒ answer 0 []
+          ∷ liftLock 1 0 ⇒ answer 20 []
           ∷ [];
     }
     ∷ record {
@@ -218,8 +235,8 @@ worked =
       store = blank;
       made = site ++ (loadLoose aisle 1 7 ∷ prepare (list (update aisle (object 7) ∷ [])) 3 ∷ []);
       lines =
-          lockName aisle ⇒ answer 20 []
-          ∷ unlockName aisle ⇒ answer 20 []
+          placeLock 0 aisle ⇒ answer 20 []
+          ∷ liftLock 0 aisle ⇒ answer 20 []
           ∷ inOrder (writePacked (packedBecomes aisle 7 ∷ []) ∷ looseGoes aisle ∷ [])
           ∷ atEveryStop aisle (Present (the 7) ∷ Present (the 7) ∷ Present (the 7) ∷ [])
           ∷ [];
@@ -229,9 +246,9 @@ worked =
       store = blank;
       made = site ++ (loadLoose aisle 1 7 ∷ prepare (list (update aisle (object 7) ∷ [])) 1 ∷ []);
       lines =
-          lockName aisle ⇒ answer 0 []
+          placeLock 0 aisle ⇒ answer 0 []
           ∷ commit 1 100 ⇒ answer 0 (0 ∷ [])
-          ∷ lockName aisle ⇒ answer 20 []
+          ∷ placeLock 0 aisle ⇒ answer 20 []
           ∷ [];
     }
     ∷ record {
