@@ -10,6 +10,9 @@ extern "C" {
 ENTRIES(DECLARE)
 #undef DECLARE
 }
+#ifdef BEFORE_HAS_FOUR_LOCKS
+#include "before_locks.h"
+#endif
 #define ENTRY(name) before_dehlbazin_##name,
 static const Archive OLDER = {ENTRIES(ENTRY)};
 #undef ENTRY
@@ -33,14 +36,10 @@ uint32_t make(const Archive &archive, const Call &call, uint8_t *region, uint8_t
         return archive.load_loose(region, size, call.a, call.b, call.c, record, answer);
     case Op::load_packed:
         return archive.load_packed(region, size, call.a, call.b, call.c, record, answer);
-    case Op::lock_name:
-        return archive.lock_name(region, size, call.a, record, answer);
-    case Op::unlock_name:
-        return archive.unlock_name(region, size, call.a, record, answer);
-    case Op::lock_packed:
-        return archive.lock_packed(region, size, record, answer);
-    case Op::unlock_packed:
-        return archive.unlock_packed(region, size, record, answer);
+    case Op::place_lock:
+        return archive.place_lock(region, size, call.a, call.b, record, answer);
+    case Op::lift_lock:
+        return archive.lift_lock(region, size, call.a, call.b, record, answer);
     case Op::prepare:
         return archive.prepare(region, size, bytes, call.bytes.size(), call.a, record, answer);
     case Op::commit:

@@ -1,4 +1,4 @@
-// The fifteen entries of an archive. Two archives export the same names, so those of an older one get a prefix before they are
+// The thirteen entries of an archive. Two archives export the same names, so those of an older one get a prefix before they are
 // linked (tools/bench), and both are called in one run.
 #pragma once
 
@@ -6,9 +6,8 @@
 #include "dehlbazin.h"
 
 #define ENTRIES(each)                                                                                                        \
-    each(start) each(add_name) each(name_bytes) each(load_loose) each(load_packed) each(lock_name) each(unlock_name)         \
-        each(lock_packed) each(unlock_packed) each(prepare) each(commit) each(rollback) each(read_name) each(read_line)      \
-            each(read_row)
+    each(start) each(add_name) each(name_bytes) each(load_loose) each(load_packed) each(place_lock) each(lift_lock)          \
+        each(prepare) each(commit) each(rollback) each(read_name) each(read_line) each(read_row)
 
 struct Archive {
 #define POINTER(name) decltype(&dehlbazin_##name) name;

@@ -1,4 +1,4 @@
-// Each of the fifteen calls on an empty, a usual and a full region.
+// Each of the thirteen calls, the lock calls on both kinds, on an empty, a usual and a full region.
 #include "paper.h"
 #include "report.h"
 #include "sites.h"
@@ -20,7 +20,7 @@ static Sample sample(const char *title, Bytes open, const Call &prepare, const s
 {
     const uint64_t foreign = held > 0 ? held - 1 : 0;
     if (held > 0)
-        open = after(open, call::lock_name(foreign));
+        open = after(open, call::place_lock_on_name(foreign));
     return {title, open, after(open, prepare), prepare, add, held, foreign, line, row};
 }
 
@@ -55,10 +55,10 @@ static std::vector<Trial> trials_of(const Sample &s)
         {"name_bytes", prepared, {call::name_bytes(s.held)}},
         {"load_loose", open, {call::load_loose(s.held, OBJECT, 5)}},
         {"load_packed", open, {call::load_packed(s.held, OBJECT, 5)}},
-        {"lock_name", prepared, {call::lock_name(s.held)}},
-        {"unlock_name", prepared, {call::unlock_name(s.foreign)}},
-        {"lock_packed", open, {call::lock_packed()}},
-        {"unlock_packed", after(open, call::lock_packed()), {call::unlock_packed()}},
+        {"place_lock, a name", prepared, {call::place_lock_on_name(s.held)}},
+        {"lift_lock, a name", prepared, {call::lift_lock_of_name(s.foreign)}},
+        {"place_lock, the table", open, {call::place_lock_on_packed()}},
+        {"lift_lock, the table", after(open, call::place_lock_on_packed()), {call::lift_lock_of_packed()}},
         {"prepare", open, {s.prepare}},
         {"commit", prepared, {call::commit(7, ~uint64_t(0))}},
         {"rollback", prepared, {call::rollback()}},

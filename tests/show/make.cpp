@@ -45,7 +45,9 @@ static void packed(const std::string &name, uint64_t object)
 
 static void lock(const std::string &name)
 {
-    must_be_done(dehlbazin_lock_name(region.data(), region.size(), number_of(name), answer.data(), answer.size()), name);
+    const uint64_t number = number_of(name);
+    must_be_done(
+        dehlbazin_place_lock(region.data(), region.size(), DEHLBAZIN_LOCKABLE_NAME, number, answer.data(), answer.size()), name);
 }
 
 // ---- edits
