@@ -69,10 +69,10 @@ fn serve(region: &mut Region) -> Result<(), Refusal> {
     let outdated = make(&mut store, &[moving(aisle7, 4102, 4104)?], EVERY_WRITE);
     say(&store, outdated);
     // An aisle that somebody else holds is left alone.
-    store.lock_name(aisle7)?;
+    store.place_lock(aisle7)?;
     let held = make(&mut store, &[moving(head, 4103, 4104)?], EVERY_WRITE);
     say(&store, held);
-    store.unlock_name(aisle7)?;
+    store.lift_lock(aisle7)?;
     // Three writes are too few for this. Each aisle reads its old layout or its new one then, never a third.
     let stopped = make(&mut store, &[moving(head, 4103, 4104)?, moving(aisle8, u64::MAX, 4104)?], 3);
     say(&store, stopped);

@@ -1,4 +1,4 @@
-//! The nineteen entries of the archive, and the only `unsafe` of this crate: they are declared here, and each is called here
+//! The seventeen entries of the archive, and the only `unsafe` of this crate: they are declared here, and each is called here
 //! from a function that is safe to call.
 //!
 //! Three things hold of every call below, which the archive cannot test (include/dehlbazin.h):
@@ -49,10 +49,22 @@ extern "C" {
         answer: *mut u8,
         answer_len: usize,
     ) -> u32;
-    fn dehlbazin_lock_name(region: *mut u8, region_len: usize, name: u64, answer: *mut u8, answer_len: usize) -> u32;
-    fn dehlbazin_unlock_name(region: *mut u8, region_len: usize, name: u64, answer: *mut u8, answer_len: usize) -> u32;
-    fn dehlbazin_lock_packed(region: *mut u8, region_len: usize, answer: *mut u8, answer_len: usize) -> u32;
-    fn dehlbazin_unlock_packed(region: *mut u8, region_len: usize, answer: *mut u8, answer_len: usize) -> u32;
+    fn dehlbazin_place_lock(
+        region: *mut u8,
+        region_len: usize,
+        kind: u64,
+        number: u64,
+        answer: *mut u8,
+        answer_len: usize,
+    ) -> u32;
+    fn dehlbazin_lift_lock(
+        region: *mut u8,
+        region_len: usize,
+        kind: u64,
+        number: u64,
+        answer: *mut u8,
+        answer_len: usize,
+    ) -> u32;
     fn dehlbazin_prepare(
         region: *mut u8,
         region_len: usize,
@@ -150,24 +162,14 @@ pub(crate) fn load_packed(region: &mut Region, name: u64, kind: u64, number: u64
     ask(|answer, len| unsafe { dehlbazin_load_packed(region.as_mut_ptr(), REGION_SIZE, name, kind, number, answer, len) })
 }
 
-pub(crate) fn lock_name(region: &mut Region, name: u64) -> Answer {
+pub(crate) fn place_lock(region: &mut Region, kind: u64, number: u64) -> Answer {
     // SAFETY: the region is borrowed alone, and the record is ask's own.
-    ask(|answer, len| unsafe { dehlbazin_lock_name(region.as_mut_ptr(), REGION_SIZE, name, answer, len) })
+    ask(|answer, len| unsafe { dehlbazin_place_lock(region.as_mut_ptr(), REGION_SIZE, kind, number, answer, len) })
 }
 
-pub(crate) fn unlock_name(region: &mut Region, name: u64) -> Answer {
+pub(crate) fn lift_lock(region: &mut Region, kind: u64, number: u64) -> Answer {
     // SAFETY: the region is borrowed alone, and the record is ask's own.
-    ask(|answer, len| unsafe { dehlbazin_unlock_name(region.as_mut_ptr(), REGION_SIZE, name, answer, len) })
-}
-
-pub(crate) fn lock_packed(region: &mut Region) -> Answer {
-    // SAFETY: the region is borrowed alone, and the record is ask's own.
-    ask(|answer, len| unsafe { dehlbazin_lock_packed(region.as_mut_ptr(), REGION_SIZE, answer, len) })
-}
-
-pub(crate) fn unlock_packed(region: &mut Region) -> Answer {
-    // SAFETY: the region is borrowed alone, and the record is ask's own.
-    ask(|answer, len| unsafe { dehlbazin_unlock_packed(region.as_mut_ptr(), REGION_SIZE, answer, len) })
+    ask(|answer, len| unsafe { dehlbazin_lift_lock(region.as_mut_ptr(), REGION_SIZE, kind, number, answer, len) })
 }
 
 pub(crate) fn prepare(region: &mut Region, list: &[u8], mode: u64) -> Answer {

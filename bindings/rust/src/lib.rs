@@ -27,6 +27,7 @@
 //! - A [`Store`] keeps no copy of anything: each call reads the region, and tests it whole first.
 //! - What a name reads is [`Found`] in a [`Place`]: loose, packed, or neither, and perhaps behind a loose value that is broken.
 //!   A [`Row`] has the place of what prepare found.
+//! - What another program holds has a foreign lock: it is placed on a [`Lockable`], a name or the packed table.
 //! - What a site keeps between runs is a record of its own: [`Settings`] are written to one, a [`SettingsView`] reads it, and
 //!   a store is started with it.
 //! - What no call can test, the borrow rules see to: that what is lent is there, that nothing overlaps, and that calls on one
@@ -40,6 +41,7 @@ mod edit;
 #[allow(unsafe_code)]
 mod entries;
 mod found;
+mod lockable;
 mod numbers;
 mod refusal;
 mod settings;
@@ -53,6 +55,7 @@ mod words;
 pub use edit::{Change, EditList, LogChange, PackedRefs, PreviousValue, RefEdit, RefLog};
 pub use entries::REGION_SIZE;
 pub use found::{Found, Place};
+pub use lockable::Lockable;
 pub use numbers::{Committer, Message, NameNumber, ObjectNumber, Site};
 pub use refusal::Refusal;
 pub use settings::{Committers, NamedCommitter, Settings, SettingsView, Version};
@@ -66,5 +69,5 @@ pub use words::InWords;
 /// A region of the right size. Bytes whose size is not known go to [`Store::open_in`] and [`Store::start_in`].
 pub type Region = [u8; REGION_SIZE];
 
-/// The version of the interface that this crate was written for, as `DEHLBAZIN_VERSION` of include/dehlbazin.h has it: 0.7.0.
-pub const VERSION: u32 = 7000;
+/// The version of the interface that this crate was written for, as `DEHLBAZIN_VERSION` of include/dehlbazin.h has it: 0.8.0.
+pub const VERSION: u32 = 8000;

@@ -2,8 +2,8 @@
 
 use crate::answer::{Answer, DONE, KIND_NONE, KIND_OBJECT};
 use crate::{
-    entries, Committer, EditList, Found, Line, Lines, Loose, NameNumber, Names, ObjectNumber, PackedRefs, Refusal, Region, Row,
-    Rows, Transaction, View,
+    entries, Committer, EditList, Found, Line, Lines, Lockable, Loose, NameNumber, Names, ObjectNumber, PackedRefs, Refusal,
+    Region, Row, Rows, Transaction, View,
 };
 
 /// Which names get log lines.
@@ -224,24 +224,18 @@ impl Store<'_> {
         entries::load_packed(self.region, name.get(), kind, number).done()
     }
 
-    /// Places a foreign lock on a name: another program holds it.
-    pub fn lock_name(&mut self, name: NameNumber) -> Result<(), Refusal> {
-        entries::lock_name(self.region, name.get()).done()
+    /// Places a foreign lock on a name or on the packed table: another program holds it. Refused with 3 where there is no such
+    /// name, with 20 where the lock is not free.
+    pub fn place_lock(&mut self, what: impl Into<Lockable>) -> Result<(), Refusal> {
+        let (kind, number) = what.into().parts();
+        entries::place_lock(self.region, kind, number).done()
     }
 
-    /// Lifts the foreign lock of a name.
-    pub fn unlock_name(&mut self, name: NameNumber) -> Result<(), Refusal> {
-        entries::unlock_name(self.region, name.get()).done()
-    }
-
-    /// Places a foreign lock on the packed table.
-    pub fn lock_packed(&mut self) -> Result<(), Refusal> {
-        entries::lock_packed(self.region).done()
-    }
-
-    /// Lifts the foreign lock of the packed table.
-    pub fn unlock_packed(&mut self) -> Result<(), Refusal> {
-        entries::unlock_packed(self.region).done()
+    /// Lifts the foreign lock of a name or of the packed table. Refused with 3 where there is no such name, with 20 where the
+    /// lock is not foreign.
+    pub fn lift_lock(&mut self, what: impl Into<Lockable>) -> Result<(), Refusal> {
+        let (kind, number) = what.into().parts();
+        entries::lift_lock(self.region, kind, number).done()
     }
 
     /// Prepares the edits: all of them, or none and the reason why. The same as [`Transaction::prepare`].

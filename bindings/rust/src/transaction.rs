@@ -1,6 +1,6 @@
 //! A prepared transaction.
 
-use crate::{Committer, EditList, NameNumber, Outcome, PackedRefs, Refusal, Store, View, EVERY_WRITE};
+use crate::{Committer, EditList, Lockable, NameNumber, Outcome, PackedRefs, Refusal, Store, View, EVERY_WRITE};
 
 /// A prepared transaction. It borrows its store alone, and rolls back when it is dropped, unless it was committed.
 ///
@@ -89,24 +89,14 @@ impl Transaction<'_> {
         self.store.add_name(name)
     }
 
-    /// As [`Store::lock_name`]. A lock that the transaction holds is not free.
-    pub fn lock_name(&mut self, name: NameNumber) -> Result<(), Refusal> {
-        self.store.lock_name(name)
+    /// As [`Store::place_lock`]. A lock that the transaction holds is not free.
+    pub fn place_lock(&mut self, what: impl Into<Lockable>) -> Result<(), Refusal> {
+        self.store.place_lock(what)
     }
 
-    /// As [`Store::unlock_name`].
-    pub fn unlock_name(&mut self, name: NameNumber) -> Result<(), Refusal> {
-        self.store.unlock_name(name)
-    }
-
-    /// As [`Store::lock_packed`].
-    pub fn lock_packed(&mut self) -> Result<(), Refusal> {
-        self.store.lock_packed()
-    }
-
-    /// As [`Store::unlock_packed`].
-    pub fn unlock_packed(&mut self) -> Result<(), Refusal> {
-        self.store.unlock_packed()
+    /// As [`Store::lift_lock`]. A lock that the transaction holds is not foreign.
+    pub fn lift_lock(&mut self, what: impl Into<Lockable>) -> Result<(), Refusal> {
+        self.store.lift_lock(what)
     }
 }
 

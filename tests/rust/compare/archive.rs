@@ -34,8 +34,14 @@ mod entries {
             answer: *mut u8,
             answer_len: usize,
         ) -> u32;
-        pub fn dehlbazin_lock_name(region: *mut u8, len: usize, name: u64, answer: *mut u8, answer_len: usize) -> u32;
-        pub fn dehlbazin_lock_packed(region: *mut u8, len: usize, answer: *mut u8, answer_len: usize) -> u32;
+        pub fn dehlbazin_place_lock(
+            region: *mut u8,
+            len: usize,
+            kind: u64,
+            number: u64,
+            answer: *mut u8,
+            answer_len: usize,
+        ) -> u32;
         pub fn dehlbazin_prepare(
             region: *mut u8,
             len: usize,
@@ -118,12 +124,19 @@ pub fn load_packed(region: &mut [u8], name: usize, packed: Option<u64>) -> Repor
     call!(region, as_mut_ptr, dehlbazin_load_packed, name as u64, packed.is_some().into(), packed.unwrap_or(0))
 }
 
-pub fn lock_name(region: &mut [u8], name: usize) -> Reported {
-    call!(region, as_mut_ptr, dehlbazin_lock_name, name as u64)
+/// What a foreign lock is placed on.
+#[derive(Debug, Clone, Copy, PartialEq, Eq)]
+pub enum Lockable {
+    Name(usize),
+    PackedTable,
 }
 
-pub fn lock_packed(region: &mut [u8]) -> Reported {
-    call!(region, as_mut_ptr, dehlbazin_lock_packed)
+pub fn place_lock(region: &mut [u8], what: Lockable) -> Reported {
+    let (kind, number) = match what {
+        Lockable::Name(name) => (0, name as u64),
+        Lockable::PackedTable => (1, 0),
+    };
+    call!(region, as_mut_ptr, dehlbazin_place_lock, kind, number)
 }
 
 pub fn prepare_bytes(region: &mut [u8], list: &[u8], mode: u8) -> Reported {
@@ -180,11 +193,11 @@ pub fn by_calls(store: &Store) -> Option<Vec<u8>> {
         done(load_loose(&mut region, name, state.loose[name]));
         done(load_packed(&mut region, name, state.packed[name]));
         if state.locks[name] {
-            done(lock_name(&mut region, name));
+            done(place_lock(&mut region, Lockable::Name(name)));
         }
     }
     if state.packed_lock {
-        done(lock_packed(&mut region));
+        done(place_lock(&mut region, Lockable::PackedTable));
     }
     Some(region)
 }

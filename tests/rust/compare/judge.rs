@@ -1,7 +1,7 @@
 //! The comparison of one case: both sides answer it, and every number, extra, row, lock, value and line must be the same.
 
 use crate::answer::{Answer, Prepared, Reply, Row, NO_LAYOUT};
-use crate::archive;
+use crate::archive::{self, Lockable};
 use crate::case::{Case, End, State, Target};
 use crate::conflicts;
 use crate::differences::{self, Stage};
@@ -92,10 +92,11 @@ fn compare_locked(case: &Case, rust: &Answer) -> Outcome {
     for name in 0..case.store.names.len() {
         let free = !prepared.ours[name] && !case.store.state.locks[name];
         let reply = Reply::new(if free { 0 } else { 20 }, &[]);
-        same_reply(Stage::Locks, &reply, archive::lock_name(&mut region, name))?;
+        same_reply(Stage::Locks, &reply, archive::place_lock(&mut region, Lockable::Name(name)))?;
     }
     let free = !prepared.ours_packed && !case.store.state.packed_lock;
-    same_reply(Stage::Locks, &Reply::new(if free { 0 } else { 20 }, &[]), archive::lock_packed(&mut region))?;
+    let reply = Reply::new(if free { 0 } else { 20 }, &[]);
+    same_reply(Stage::Locks, &reply, archive::place_lock(&mut region, Lockable::PackedTable))?;
     same_reply(Stage::End, &prepared.end, archive::end(&mut region, case))?;
     same_region(Stage::End, &image::encode(&case.store, &prepared.after, None), &region)
 }

@@ -1,7 +1,7 @@
 //! Each known difference by its smallest input, run on both sides. A difference that cannot be seen any more fails.
 
 use crate::answer::{Answer, Prepared, NOT_LOGGED, NOT_PLACED, NOT_REMOVED, NO_LAYOUT};
-use crate::archive;
+use crate::archive::{self, Lockable};
 use crate::build::{delete, link, object, store, update};
 use crate::case::{Case, Expected, Line, Target, ENOUGH};
 use crate::image;
@@ -87,7 +87,7 @@ fn lost_in_mode_3(site: &Site) -> Vec<Seen> {
     }
     let case = store(1, &["HEAD"]).loose(0, object(7)).mode(3).edit(update(0, object(7)).log_only());
     let kept = prepared(&original::answer(site, &case)).ours[0];
-    let here = archive::lock_name(&mut prepare(&case).0, 0).number;
+    let here = archive::place_lock(&mut prepare(&case).0, Lockable::Name(0)).number;
     let fine = explained(site, &case, 1) && kept && here == 0;
     let input = "HEAD loose 7, its log only updated to 7 in mode 3";
     list.push(seen(1, input, format!("keeps its lock: {kept}"), format!("placing a lock on HEAD then answers {here}"), fine));
@@ -188,7 +188,7 @@ fn empty_table(site: &Site) -> Vec<Seen> {
     let case = store(1, &["refs/heads/aisle"]).edit(delete(0));
     let odd = Odd { empty_packed_file: true, ..Odd::default() };
     let rust = prepared(&original::answer_oddly(site, &case, odd)).ours_packed;
-    let here = archive::lock_packed(&mut prepare(&case).0).number;
+    let here = archive::place_lock(&mut prepare(&case).0, Lockable::PackedTable).number;
     let input = "a packed file of no entries, refs/heads/aisle deleted in mode 1";
     vec![seen(
         6,

@@ -1,4 +1,4 @@
-//! Each of the fifteen calls of docs/SPEC.md, done and refused, through its typed form.
+//! Each of the thirteen calls of docs/SPEC.md, done and refused, through its typed form.
 
 use crate::site::*;
 use crate::tally::*;
@@ -103,16 +103,22 @@ fn loads() {
 fn locks() {
     let mut region = site(&["HEAD"]);
     let mut store = done(Store::open(&mut region));
-    refused(store.unlock_name(HEAD), Refusal::WrongLock);
-    done(store.lock_name(HEAD));
-    refused(store.lock_name(HEAD), Refusal::WrongLock);
-    done(store.unlock_name(HEAD));
-    refused(store.lock_name(NOBODYS), NOT_THERE);
-    refused(store.unlock_name(NOBODYS), NOT_THERE);
-    refused(store.unlock_packed(), Refusal::WrongLock);
-    done(store.lock_packed());
-    refused(store.lock_packed(), Refusal::WrongLock);
-    done(store.unlock_packed());
+    let both = [Lockable::from(HEAD), Lockable::PackedTable];
+    same(both[0], Lockable::Name(HEAD));
+    for (what, other) in [(both[0], both[1]), (both[1], both[0])] {
+        refused(store.lift_lock(what), Refusal::WrongLock);
+        done(store.place_lock(what));
+        refused(store.place_lock(what), Refusal::WrongLock);
+        refused(store.lift_lock(other), Refusal::WrongLock); // it is still free
+        done(store.place_lock(other));
+        done(store.lift_lock(what));
+        refused(store.place_lock(other), Refusal::WrongLock); // and now it is not
+        done(store.lift_lock(other));
+    }
+    done(store.place_lock(HEAD));
+    done(store.lift_lock(HEAD));
+    refused(store.place_lock(NOBODYS), NOT_THERE);
+    refused(store.lift_lock(NOBODYS), NOT_THERE);
 }
 
 /// A list is refused, and no byte is changed.
@@ -179,12 +185,12 @@ fn prepare_others() {
     let mut region = marked();
     let mut store = done(Store::open(&mut region));
     let through = RefEdit::update(HEAD, ANY, object(6)).through_links();
-    done(store.lock_name(AISLE));
+    done(store.place_lock(AISLE));
     refuses(&mut store, &[through], Refusal::LockAcquire { name: HEAD });
-    done(store.unlock_name(AISLE));
-    done(store.lock_packed());
+    done(store.lift_lock(AISLE));
+    done(store.place_lock(Lockable::PackedTable));
     refuses(&mut store, &[RefEdit::update(AISLE, ANY, object(6))], Refusal::PackedTransactionAcquire);
-    done(store.unlock_packed());
+    done(store.lift_lock(Lockable::PackedTable));
     done(store.load_loose(AISLE, link(HEAD)));
     refuses(&mut store, &[through], Refusal::ReferenceCycle);
     let remove = PackedRefs::DeletionsAndNonSymbolicUpdatesRemoveLooseSourceReference;

@@ -62,16 +62,16 @@ fn meanwhile() {
     let mut store = done(Store::open(&mut region));
     let mut transaction = done(store.prepare(&some_list(), MODE));
     let tag = done(transaction.add_name("refs/tags/spring"));
-    refused(transaction.lock_name(AISLE), Refusal::WrongLock); // ours
-    refused(transaction.unlock_name(AISLE), Refusal::WrongLock);
-    done(transaction.lock_name(tag));
-    done(transaction.lock_packed());
-    done(transaction.unlock_packed());
-    refused(transaction.unlock_packed(), Refusal::WrongLock);
+    refused(transaction.place_lock(AISLE), Refusal::WrongLock); // ours
+    refused(transaction.lift_lock(AISLE), Refusal::WrongLock);
+    done(transaction.place_lock(tag));
+    done(transaction.place_lock(Lockable::PackedTable));
+    done(transaction.lift_lock(Lockable::PackedTable));
+    refused(transaction.lift_lock(Lockable::PackedTable), Refusal::WrongLock);
     same(done(transaction.commit(planner())).writes(), 3);
-    refused(store.lock_name(tag), Refusal::WrongLock); // foreign locks stay
-    done(store.unlock_name(tag));
-    done(store.lock_name(AISLE));
+    refused(store.place_lock(tag), Refusal::WrongLock); // foreign locks stay
+    done(store.lift_lock(tag));
+    done(store.place_lock(AISLE));
 }
 
 fn walks() {

@@ -6,6 +6,7 @@ mod damaged;
 mod dice;
 mod edits;
 mod life;
+mod locks;
 mod marked;
 mod places;
 mod plain;
@@ -24,10 +25,11 @@ fn run(part: &str, all: impl FnOnce() + std::panic::UnwindSafe) {
 
 fn main() {
     let numbers: Vec<u64> = std::env::args().skip(1).filter_map(|word| word.parse().ok()).collect();
-    let parts: [(&str, fn()); 7] = [
+    let parts: [(&str, fn()); 8] = [
         ("calls", calls::all),
         ("edits", edits::all),
         ("life", life::all),
+        ("locks", locks::all),
         ("words", words::all),
         ("marked", marked::all),
         ("places", places::all),

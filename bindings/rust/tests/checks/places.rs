@@ -126,7 +126,7 @@ fn prepared(value: &Value, elsewhere: bool, mode: u64, opens: Opens, edits: &[Re
     let mut transaction = done(store.prepare(&list(edits), mode_of(mode)));
     row_found(transaction.store(), 0, wanted);
     // Opened, its lock is ours. Else others may take it. Neither that nor a new name changes what was found.
-    same(transaction.lock_packed(), if opened { Err(Refusal::WrongLock) } else { Ok(()) });
+    same(transaction.place_lock(Lockable::PackedTable), if opened { Err(Refusal::WrongLock) } else { Ok(()) });
     done(transaction.add_name("refs/heads/another"));
     row_found(transaction.store(), 0, wanted);
     name_reads(transaction.store(), AISLE, value.found());
@@ -181,7 +181,7 @@ fn unpackable() {
         done(store.load_loose(HEAD, value.loose));
         name_reads(&store, HEAD, value.found());
         let mut transaction = done(store.prepare(&list(&edits), MODE));
-        refused(transaction.lock_packed(), Refusal::WrongLock);
+        refused(transaction.place_lock(Lockable::PackedTable), Refusal::WrongLock);
         row_found(transaction.store(), 0, value.seen);
         row_found(transaction.store(), 1, Place::Packed);
     }

@@ -5,6 +5,10 @@ use dehlbazin::Region;
 
 pub type Record = [u8; 128];
 
+/// The kinds of what a lock is placed on.
+pub const LOCKABLE_NAME: u64 = 0;
+pub const LOCKABLE_PACKED_TABLE: u64 = 1;
+
 /// Place `i` of a record, big-endian.
 pub fn place(record: &Record, i: usize) -> u64 {
     u64::from_be_bytes(record[8 * i..8 * i + 8].try_into().unwrap())
@@ -48,10 +52,8 @@ entry!(dehlbazin_add_name, add_name, mut, [name]);
 entry!(dehlbazin_name_bytes, name_bytes, read, name);
 entry!(dehlbazin_load_loose, load_loose, mut, name, kind, number);
 entry!(dehlbazin_load_packed, load_packed, mut, name, kind, number);
-entry!(dehlbazin_lock_name, lock_name, mut, name);
-entry!(dehlbazin_unlock_name, unlock_name, mut, name);
-entry!(dehlbazin_lock_packed, lock_packed, mut);
-entry!(dehlbazin_unlock_packed, unlock_packed, mut);
+entry!(dehlbazin_place_lock, place_lock, mut, kind, number);
+entry!(dehlbazin_lift_lock, lift_lock, mut, kind, number);
 entry!(dehlbazin_prepare, prepare, mut, [list], mode);
 entry!(dehlbazin_commit, commit, mut, committer, allowance);
 entry!(dehlbazin_rollback, rollback, mut);

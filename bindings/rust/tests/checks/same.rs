@@ -1,6 +1,7 @@
 //! Random calls, each made through the crate and by the plain entry, on two regions that stay the same byte for byte.
 
 use crate::dice::Dice;
+use crate::plain::{LOCKABLE_NAME, LOCKABLE_PACKED_TABLE};
 use crate::record::{written, Plan};
 use crate::step::*;
 use crate::tally::check;
@@ -24,7 +25,7 @@ struct Pair {
     places: BTreeMap<(&'static str, u64), u64>,
 }
 
-/// Which of the calls on a region.
+/// Which of the calls on a region. Those of a lock count for a name and for the packed table, each on its own.
 fn kind(step: &Step) -> usize {
     match step {
         Step::Start(_) => 0,
@@ -32,10 +33,10 @@ fn kind(step: &Step) -> usize {
         Step::NameBytes(_) => 2,
         Step::LoadLoose(..) => 3,
         Step::LoadPacked(..) => 4,
-        Step::LockName(_) => 5,
-        Step::UnlockName(_) => 6,
-        Step::LockPacked => 7,
-        Step::UnlockPacked => 8,
+        Step::PlaceLock((LOCKABLE_NAME, _)) => 5,
+        Step::PlaceLock(_) => 6,
+        Step::LiftLock((LOCKABLE_NAME, _)) => 7,
+        Step::LiftLock(_) => 8,
         Step::Prepare(..) => 9,
         Step::Commit(..) => 10,
         Step::Rollback => 11,
@@ -168,6 +169,17 @@ fn some_name(dice: &mut Dice, names: u16) -> u16 {
     }
 }
 
+/// A name, as what is locked.
+fn named(name: u16) -> Parts {
+    (LOCKABLE_NAME, u64::from(name))
+}
+
+/// The packed table, as what is locked. The number beside it may be a name's, and is not looked at.
+fn some_table(dice: &mut Dice, names: u16) -> Parts {
+    let number = if dice.once_in(2) { u64::from(some_name(dice, names)) } else { dice.any() };
+    (LOCKABLE_PACKED_TABLE, number)
+}
+
 /// Few objects, so that they meet; and the largest.
 fn some_object(dice: &mut Dice) -> u64 {
     if dice.once_in(30) {
@@ -240,9 +252,9 @@ fn some_prepare(dice: &mut Dice, names: u16) -> Step {
 fn some_chain(dice: &mut Dice, names: u16) -> Vec<Step> {
     let hops = (1 + dice.below(2) as u16).min(names.saturating_sub(1));
     let end = if dice.once_in(4) { (0, 0) } else { (1, some_object(dice)) };
-    let mut steps = vec![Step::Rollback, Step::UnlockPacked, Step::LoadLoose(hops, end)];
+    let mut steps = vec![Step::Rollback, Step::LiftLock(some_table(dice, names)), Step::LoadLoose(hops, end)];
     for name in 0..=hops {
-        steps.push(Step::UnlockName(name));
+        steps.push(Step::LiftLock(named(name)));
         if name < hops {
             steps.push(Step::LoadLoose(name, (2, u64::from(name) + 1)));
         }
@@ -292,10 +304,10 @@ fn some_step_meanwhile(dice: &mut Dice, names: u16) -> Step {
     let name = some_name(dice, names);
     match dice.below(9) {
         0 => Step::AddName(some_bytes(dice)),
-        1 if dice.once_in(3) => Step::LockName(name),
-        2 => Step::UnlockName(name),
-        3 if dice.once_in(3) => Step::LockPacked,
-        4 => Step::UnlockPacked,
+        1 if dice.once_in(3) => Step::PlaceLock(named(name)),
+        2 => Step::LiftLock(named(name)),
+        3 if dice.once_in(3) => Step::PlaceLock(some_table(dice, names)),
+        4 => Step::LiftLock(some_table(dice, names)),
         5 => Step::NameBytes(name),
         6 => Step::ReadName(name),
         7 => Step::ReadLine(name, dice.below(4)),
@@ -314,8 +326,8 @@ fn some_step(dice: &mut Dice, names: u16) -> Step {
             Step::Commit(committer, allowance)
         }
         7 => Step::Rollback,
-        8 => Step::UnlockPacked,
-        9 | 10 => Step::UnlockName(some_name(dice, names)),
+        8 => Step::LiftLock(some_table(dice, names)),
+        9 | 10 => Step::LiftLock(named(some_name(dice, names))),
         11 if names < 4 => Step::AddName(some_bytes(dice)),
         _ => some_step_meanwhile(dice, names),
     }

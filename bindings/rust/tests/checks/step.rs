@@ -1,9 +1,9 @@
 //! A call as numbers and bytes, which can be made in two ways: by the plain entry, and through the crate.
 
-use crate::plain::{self, place};
+use crate::plain::{self, place, LOCKABLE_NAME};
 use dehlbazin::*;
 
-/// A kind and a number: (0, 0) for none.
+/// A kind and a number: of a value, with (0, 0) for none, or of what is locked.
 pub type Parts = (u64, u64);
 
 /// An edit in numbers, as the table of docs/SPEC.md has it.
@@ -28,10 +28,8 @@ pub enum Step {
     NameBytes(u16),
     LoadLoose(u16, Parts),
     LoadPacked(u16, u64),
-    LockName(u16),
-    UnlockName(u16),
-    LockPacked,
-    UnlockPacked,
+    PlaceLock(Parts),
+    LiftLock(Parts),
     Prepare(Vec<Fields>, u64),
     Commit(u16, u64),
     Rollback,
@@ -70,10 +68,8 @@ pub fn make_plainly(step: &Step, region: &mut Region) -> Reply {
         Step::NameBytes(name) => plain::name_bytes(region, u64::from(*name), to),
         Step::LoadLoose(name, (kind, number)) => plain::load_loose(region, u64::from(*name), *kind, *number, to),
         Step::LoadPacked(name, object) => plain::load_packed(region, u64::from(*name), u64::from(*object != 0), *object, to),
-        Step::LockName(name) => plain::lock_name(region, u64::from(*name), to),
-        Step::UnlockName(name) => plain::unlock_name(region, u64::from(*name), to),
-        Step::LockPacked => plain::lock_packed(region, to),
-        Step::UnlockPacked => plain::unlock_packed(region, to),
+        Step::PlaceLock((kind, number)) => plain::place_lock(region, *kind, *number, to),
+        Step::LiftLock((kind, number)) => plain::lift_lock(region, *kind, *number, to),
         Step::Prepare(edits, mode) => plain::prepare(region, &list_bytes(edits), *mode, to),
         Step::Commit(committer, allowance) => plain::commit(region, u64::from(*committer), *allowance, to),
         Step::Rollback => plain::rollback(region, to),
@@ -142,6 +138,15 @@ fn loose_of(parts: Parts) -> Loose {
     }
 }
 
+/// The number beside the packed table is left out: a typed call has none there.
+fn lockable_of((kind, number): Parts) -> Lockable {
+    if kind == LOCKABLE_NAME {
+        Lockable::Name(NameNumber::new(number).unwrap())
+    } else {
+        Lockable::PackedTable
+    }
+}
+
 /// Makes a call on a store. What is given as values is put back into places.
 pub fn make(step: &Step, store: &mut Store<'_>) -> Reply {
     match step {
@@ -152,10 +157,8 @@ pub fn make(step: &Step, store: &mut Store<'_>) -> Reply {
         Step::LoadPacked(name, object) => {
             reply(store.load_packed(NameNumber(*name), ObjectNumber::new(*object).ok()), |_| vec![])
         }
-        Step::LockName(name) => reply(store.lock_name(NameNumber(*name)), |_| vec![]),
-        Step::UnlockName(name) => reply(store.unlock_name(NameNumber(*name)), |_| vec![]),
-        Step::LockPacked => reply(store.lock_packed(), |_| vec![]),
-        Step::UnlockPacked => reply(store.unlock_packed(), |_| vec![]),
+        Step::PlaceLock(what) => reply(store.place_lock(lockable_of(*what)), |_| vec![]),
+        Step::LiftLock(what) => reply(store.lift_lock(lockable_of(*what)), |_| vec![]),
         Step::Prepare(edits, mode) => {
             let rows = store.prepare(&list_of(edits), mode_of(*mode)).map(|transaction| {
                 let rows = transaction.row_count();
@@ -174,10 +177,8 @@ pub fn make(step: &Step, store: &mut Store<'_>) -> Reply {
 pub fn make_meanwhile(step: &Step, transaction: &mut Transaction<'_>) -> Reply {
     match step {
         Step::AddName(bytes) => reply(transaction.add_name(bytes), |name| vec![name.get()]),
-        Step::LockName(name) => reply(transaction.lock_name(NameNumber(*name)), |_| vec![]),
-        Step::UnlockName(name) => reply(transaction.unlock_name(NameNumber(*name)), |_| vec![]),
-        Step::LockPacked => reply(transaction.lock_packed(), |_| vec![]),
-        Step::UnlockPacked => reply(transaction.unlock_packed(), |_| vec![]),
+        Step::PlaceLock(what) => reply(transaction.place_lock(lockable_of(*what)), |_| vec![]),
+        Step::LiftLock(what) => reply(transaction.lift_lock(lockable_of(*what)), |_| vec![]),
         _ => read(step, transaction.store().view()),
     }
 }

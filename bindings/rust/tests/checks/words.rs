@@ -1,5 +1,6 @@
 //! Refusals, targets, places and outcomes in words.
 
+use crate::plain::{LOCKABLE_NAME, LOCKABLE_PACKED_TABLE};
 use crate::site::*;
 use crate::tally::*;
 use dehlbazin::*;
@@ -45,7 +46,7 @@ fn refusals() {
     of_tag(&delete(MustExist), "to be deleted, but nothing is there");
     of_tag(&delete(MustNotExist), "a delete that expects nothing");
     of_tag(&[delete(Any), delete(Any)].concat(), "two rows have this name");
-    done(store.lock_name(tag));
+    done(store.place_lock(tag));
     let words = tags("its lock is foreign, or that of a name that its links lead to");
     says(store, &delete(Any), &words.0, &words.1);
     let shelf = done(store.add_name("refs/heads/aisle/shelf"));
@@ -181,6 +182,9 @@ fn header() {
     for (place, number) in PLACES.into_iter().zip(1..) {
         same(value(&format!("PLACE_{}", in_capitals(&format!("{place:?}")))), Some(number));
         same(place as u32, number);
+    }
+    for (what, kind) in [("NAME", LOCKABLE_NAME), ("PACKED_TABLE", LOCKABLE_PACKED_TABLE)] {
+        same(value(&format!("LOCKABLE_{what}")).map(u64::from), Some(kind));
     }
     same(value("DONE"), Some(Outcome::AllWritten { writes: 0 }.number()));
     same(every().len(), 24);

@@ -3,7 +3,7 @@ use dehlbazin::*;
 
 pub fn service(store: &mut Store<'_>, name: NameNumber, object: ObjectNumber) -> Result<(), Refusal> {
     #[cfg(refused)]
-    store.lock_name(object)?; // refused: error[E0308]
+    store.load_loose(object, Loose::None)?; // refused: error[E0308]
     let _ = object;
-    store.lock_name(name)
+    store.load_loose(name, Loose::None)
 }

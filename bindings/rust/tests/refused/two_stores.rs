@@ -5,5 +5,5 @@ pub fn service(region: &mut Region) -> Result<(), Refusal> {
     let mut first = Store::open(region)?;
     #[cfg(refused)]
     let _second = Store::open(region)?; // refused: error[E0499]
-    first.lock_packed()
+    first.place_lock(Lockable::PackedTable)
 }
