@@ -3,7 +3,7 @@
  * docs/SPEC.md says what the calls mean, docs/ABI.md how to use them, docs/LAYOUT.md what stands in the region, and
  * docs/SETTINGS.md what stands in a settings record.
  *
- * These are the fifteen calls of docs/SPEC.md, each of which takes the region first, then its own arguments, then the answer
+ * These are the thirteen calls of docs/SPEC.md, each of which takes the region first, then its own arguments, then the answer
  * record; and at the end the four of docs/SETTINGS.md, of which one takes a region. Each run of bytes is a pointer and a length.
  * Each call returns a number: DEHLBAZIN_DONE, or the reason of a refusal. A refused call changes no byte of the region, or of the
  * buffer that it was to write into. Two numbers are neither: with DEHLBAZIN_NO_COMMITTER and DEHLBAZIN_USED_UP dehlbazin_commit
@@ -35,10 +35,10 @@
 #include <stdint.h>
 
 /* ---- the version of this interface: of this header and of the archive's entries. Each part is below 1000, so that a later
- * version is a greater number: 0.7.0 is 7000, and 1.2.3 would be 1002003. #if can test it. */
+ * version is a greater number: 0.8.0 is 8000, and 1.2.3 would be 1002003. #if can test it. */
 
 #define DEHLBAZIN_VERSION_MAJOR 0
-#define DEHLBAZIN_VERSION_MINOR 7
+#define DEHLBAZIN_VERSION_MINOR 8
 #define DEHLBAZIN_VERSION_PATCH 0
 #define DEHLBAZIN_VERSION                                                                                                    \
     (DEHLBAZIN_VERSION_MAJOR * 1000000 + DEHLBAZIN_VERSION_MINOR * 1000 + DEHLBAZIN_VERSION_PATCH)
@@ -58,7 +58,7 @@
 
 #define DEHLBAZIN_DONE 0
 #define DEHLBAZIN_BAD_REGION 1                   /* the region is not a good one, or the answer has the wrong size */
-#define DEHLBAZIN_MALFORMED 2                    /* an edit list, a mode, a setting or a committer is malformed */
+#define DEHLBAZIN_MALFORMED 2                    /* an edit list, a mode, a setting, a kind of lock or a committer is malformed */
 #define DEHLBAZIN_NOT_REGISTERED 3               /* no name has that number, which comes back whole */
 #define DEHLBAZIN_REFERENCE_CYCLE 4              /* links are still followed in a fifth round */
 #define DEHLBAZIN_TOO_MANY_ROWS 5                /* more than 160 rows */
@@ -110,6 +110,11 @@
 #define DEHLBAZIN_PLACE_PACKED_BEHIND_BROKEN 3 /* the loose value is broken, and an object is packed */
 #define DEHLBAZIN_PLACE_ABSENT 4               /* there is no loose value, and nothing is packed */
 #define DEHLBAZIN_PLACE_ABSENT_BEHIND_BROKEN 5 /* the loose value is broken, and nothing is packed */
+
+/* ---- what a foreign lock is placed on. There is one packed table: the number beside it is not looked at, whatever it is. */
+
+#define DEHLBAZIN_LOCKABLE_NAME 0         /* a name, by its number */
+#define DEHLBAZIN_LOCKABLE_PACKED_TABLE 1 /* the packed table */
 
 /* ---- packing modes of a transaction */
 
@@ -307,25 +312,19 @@ uint32_t dehlbazin_load_loose(uint8_t *region, size_t region_len, uint64_t name,
 uint32_t dehlbazin_load_packed(uint8_t *region, size_t region_len, uint64_t name, uint64_t kind, uint64_t number,
                                uint8_t *answer, size_t answer_len);
 
-/* Places a foreign lock on a name: another program holds it.
- * refused: 3 no such name (place 0 the number); 20 its lock is not free.
+/* Places a foreign lock on a name or on the packed table: another program holds it. Nothing else of the store changes.
+ * kind: DEHLBAZIN_LOCKABLE_..; number: a name's with name. With the packed table every number does the same.
+ * refused, in this order: 2 the kind is neither of the two; 3 no such name (place 0 the number); 20 the lock is not free.
  * places: none. */
-uint32_t dehlbazin_lock_name(uint8_t *region, size_t region_len, uint64_t name, uint8_t *answer, size_t answer_len);
+uint32_t dehlbazin_place_lock(uint8_t *region, size_t region_len, uint64_t kind, uint64_t number, uint8_t *answer,
+                              size_t answer_len);
 
-/* Lifts the foreign lock of a name.
- * refused: 3 no such name (place 0 the number); 20 its lock is not foreign.
+/* Lifts the foreign lock of a name or of the packed table, which is free then. Nothing else of the store changes.
+ * kind, number: as above.
+ * refused, in this order: 2 the kind is neither of the two; 3 no such name (place 0 the number); 20 the lock is not foreign.
  * places: none. */
-uint32_t dehlbazin_unlock_name(uint8_t *region, size_t region_len, uint64_t name, uint8_t *answer, size_t answer_len);
-
-/* Places a foreign lock on the packed table.
- * refused: 20 its lock is not free.
- * places: none. */
-uint32_t dehlbazin_lock_packed(uint8_t *region, size_t region_len, uint8_t *answer, size_t answer_len);
-
-/* Lifts the foreign lock of the packed table.
- * refused: 20 its lock is not foreign.
- * places: none. */
-uint32_t dehlbazin_unlock_packed(uint8_t *region, size_t region_len, uint8_t *answer, size_t answer_len);
+uint32_t dehlbazin_lift_lock(uint8_t *region, size_t region_len, uint64_t kind, uint64_t number, uint8_t *answer,
+                             size_t answer_len);
 
 /* Prepares a transaction: the edits become rows, in rounds, each link that an edit follows making one row more; each row's
  * name is judged against what the row expects; and the locks that the rows keep become ours. Nothing else of the store

@@ -10,7 +10,8 @@
 // A Store keeps no copy of anything: each call reads the region, and tests it whole first.
 //
 // What the compiler or this header sees to, beyond what dehlbazin.h says:
-//   - the number of a name and the number of an object are two types, and neither is taken for the other;
+//   - the number of a name and the number of an object are two types, and neither is taken for the other. The packed table, which
+//     has no number, is a type of its own, so that no lock is placed on it by mistake;
 //   - what is lent to a call never overlaps: the bytes of a name, and of a settings record that a store is started with, are copied
 //     before they are passed on, and lists and answers are objects of their own;
 //   - the number of a name is tested before it is put into the 2 bytes that an edit has for it.
@@ -95,6 +96,13 @@ enum class Mode : uint64_t {
     updates = DEHLBAZIN_MODE_UPDATES,
     updates_remove_loose = DEHLBAZIN_MODE_UPDATES_REMOVE_LOOSE,
 };
+
+// The packed table, as what a lock is placed on. There is one, so it has no number. Its constructor is explicit, so that {} is not
+// taken for it.
+struct PackedTable {
+    explicit constexpr PackedTable() = default;
+};
+inline constexpr PackedTable packed_table{};
 
 // An object, or a link to a name. Which of the two is said, never guessed from a number.
 class Target {
@@ -300,7 +308,7 @@ struct Word {
 inline constexpr Word words[] = {
     {"done", "done"},
     {"bad_region", "the region holds no good store"},
-    {"malformed", "the edit list, mode, setting or committer is malformed"},
+    {"malformed", "the edit list, mode, setting, kind of lock or committer is malformed"},
     {"not_registered", "no name has this number"},
     {"reference_cycle", "links are still followed in a fifth round"},
     {"too_many_rows", "the edits come to more than 160 rows"},
@@ -1134,11 +1142,24 @@ public:
         return detail::given(change(dehlbazin_load_packed, name.number(), kind, object ? object->number() : 0));
     }
 
-    // Foreign locks: another program holds the name, or the packed table.
-    Result<Done> lock_name(NameNumber name) { return detail::given(change(dehlbazin_lock_name, name.number())); }
-    Result<Done> unlock_name(NameNumber name) { return detail::given(change(dehlbazin_unlock_name, name.number())); }
-    Result<Done> lock_packed() { return detail::given(change(dehlbazin_lock_packed)); }
-    Result<Done> unlock_packed() { return detail::given(change(dehlbazin_unlock_packed)); }
+    // Foreign locks: another program holds the name, or the packed table. Refused with 20 where the lock to be placed is not free,
+    // or the one to be lifted is not foreign.
+    Result<Done> place_lock(NameNumber name)
+    {
+        return detail::given(change(dehlbazin_place_lock, uint64_t(DEHLBAZIN_LOCKABLE_NAME), name.number()));
+    }
+    Result<Done> place_lock(PackedTable)
+    {
+        return detail::given(change(dehlbazin_place_lock, uint64_t(DEHLBAZIN_LOCKABLE_PACKED_TABLE), uint64_t(0)));
+    }
+    Result<Done> lift_lock(NameNumber name)
+    {
+        return detail::given(change(dehlbazin_lift_lock, uint64_t(DEHLBAZIN_LOCKABLE_NAME), name.number()));
+    }
+    Result<Done> lift_lock(PackedTable)
+    {
+        return detail::given(change(dehlbazin_lift_lock, uint64_t(DEHLBAZIN_LOCKABLE_PACKED_TABLE), uint64_t(0)));
+    }
 
     // Prepares the edits: all of them, or none and the reason why.
     Result<Transaction> prepare(const EditList &edits, Mode mode = Mode::deletions)

@@ -45,14 +45,10 @@ static uint32_t call(const Step &s, uint8_t *r, size_t n, uint8_t *answer, size_
         return dehlbazin_load_loose(r, n, s.a, s.b, s.c, answer, size);
     case Op::load_packed:
         return dehlbazin_load_packed(r, n, s.a, s.b, s.c, answer, size);
-    case Op::lock_name:
-        return dehlbazin_lock_name(r, n, s.a, answer, size);
-    case Op::unlock_name:
-        return dehlbazin_unlock_name(r, n, s.a, answer, size);
-    case Op::lock_packed:
-        return dehlbazin_lock_packed(r, n, answer, size);
-    case Op::unlock_packed:
-        return dehlbazin_unlock_packed(r, n, answer, size);
+    case Op::place_lock:
+        return dehlbazin_place_lock(r, n, s.a, s.b, answer, size);
+    case Op::lift_lock:
+        return dehlbazin_lift_lock(r, n, s.a, s.b, answer, size);
     case Op::prepare:
         return dehlbazin_prepare(r, n, lent, bytes.size(), s.a, answer, size);
     case Op::commit:

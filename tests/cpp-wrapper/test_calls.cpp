@@ -1,4 +1,4 @@
-// Each of the fifteen calls on a store, done and refused, through its typed form.
+// Each of the thirteen calls on a store, done and refused, through its typed form.
 #include "parts.h"
 #include "site.h"
 
@@ -112,19 +112,51 @@ static void test_loads()
     refused(site.store.load_packed(aisle, ObjectNumber(5)), Reason::wrong_state);
 }
 
+// What can be locked is a name or the packed table, and nothing that is taken for one of them.
+template <typename What, typename = void> constexpr bool can_be_placed = false;
+template <typename What, typename = void> constexpr bool can_be_lifted = false;
+template <typename What>
+constexpr bool can_be_placed<What, std::void_t<decltype(std::declval<Store &>().place_lock(std::declval<What>()))>> = true;
+template <typename What>
+constexpr bool can_be_lifted<What, std::void_t<decltype(std::declval<Store &>().lift_lock(std::declval<What>()))>> = true;
+template <typename... What> constexpr bool all_locked = ((can_be_placed<What> && can_be_lifted<What>) && ...);
+template <typename... What> constexpr bool none_locked = ((!can_be_placed<What> && !can_be_lifted<What>) && ...);
+static_assert(all_locked<NameNumber, NameNumber &, const NameNumber &, PackedTable, decltype((packed_table))>);
+static_assert(none_locked<int, unsigned, uint64_t, bool, double, std::nullptr_t, const char *, std::string_view>);
+static_assert(none_locked<ObjectNumber, Committer, Message, Allowance, SiteNumber, Target, Loose, Found, Name>);
+static_assert(none_locked<Place, Mode, Setting, Done, std::optional<NameNumber>, Result<NameNumber>>);
+
+// Only a free lock is placed, only a foreign one lifted. Each call turns the byte of its own lock, and no other.
 static void test_locks()
 {
-    Site site({"HEAD"});
-    refused(site.store.unlock_name(head), Reason::wrong_lock);
-    done(site.store.lock_name(head));
-    refused(site.store.lock_name(head), Reason::wrong_lock);
-    done(site.store.unlock_name(head));
-    refused(site.store.lock_name(nobodys), Reason::not_registered, {65536});
-    refused(site.store.unlock_name(nobodys), Reason::not_registered, {65536});
-    refused(site.store.unlock_packed(), Reason::wrong_lock);
-    done(site.store.lock_packed());
-    refused(site.store.lock_packed(), Reason::wrong_lock);
-    done(site.store.unlock_packed());
+    Site site({"HEAD", "refs/heads/aisle"});
+    Store &store = site.store;
+    const size_t packed_lock = 12, locks = 21005; // docs/LAYOUT.md
+    const Region before = site.region;
+    Region wanted = before;
+    auto turns = [&](const Result<Done> &result, size_t lock, uint8_t state, AT_CALLER) {
+        done(result, at);
+        wanted[lock] = state;
+        check(site.region == wanted, "a call turns its own lock alone", at);
+    };
+    refused(store.lift_lock(head), Reason::wrong_lock);
+    refused(store.lift_lock(packed_table), Reason::wrong_lock);
+    for (NameNumber name : {head, aisle}) {
+        turns(store.place_lock(name), locks + name.number(), 1);
+        refused(store.place_lock(name), Reason::wrong_lock);
+        refused(store.lift_lock(packed_table), Reason::wrong_lock);
+    }
+    turns(store.place_lock(packed_table), packed_lock, 1);
+    refused(store.place_lock(PackedTable()), Reason::wrong_lock);
+    for (NameNumber name : {head, aisle}) {
+        turns(store.lift_lock(name), locks + name.number(), 0);
+        refused(store.lift_lock(name), Reason::wrong_lock);
+        refused(store.place_lock(packed_table), Reason::wrong_lock);
+    }
+    turns(store.lift_lock(PackedTable{}), packed_lock, 0);
+    refused(store.place_lock(nobodys), Reason::not_registered, {65536});
+    refused(store.lift_lock(nobodys), Reason::not_registered, {65536});
+    check(site.region == before, "what was placed and lifted leaves no byte, and a refusal none");
 }
 
 // Prepare refuses these edits, and changes no byte.
@@ -174,12 +206,12 @@ static void test_prepare()
             {0, 1, 9, 2, 1});
     refuses({Delete(aisle).expecting(Expected::must_not_exist())}, Reason::delete_must_not_exist, {1});
     done(store.load_loose(aisle, Loose::none()));
-    done(store.lock_name(aisle));
+    done(store.place_lock(aisle));
     refuses({Update(head, object(6)).deref()}, Reason::lock_acquire, {0});
-    done(store.unlock_name(aisle));
-    done(store.lock_packed());
+    done(store.lift_lock(aisle));
+    done(store.place_lock(packed_table));
     refuses({Update(aisle, object(6))}, Reason::packed_transaction_acquire);
-    done(store.unlock_packed());
+    done(store.lift_lock(packed_table));
     done(store.load_loose(aisle, link(head)));
     refuses({Update(head, object(6)).deref()}, Reason::reference_cycle);
     Result<Transaction> transaction = store.prepare(list_of({Update(tag, object(8))}), Mode::updates_remove_loose);

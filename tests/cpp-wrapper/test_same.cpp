@@ -97,6 +97,16 @@ static Step some_load(Dice &dice, const Known &known, bool packed)
     return step;
 }
 
+// On a name, or on the packed table with any number. No other kind can be said with types.
+static Step some_locking(Dice &dice, const Known &known, Op op)
+{
+    Step step{op};
+    step.a = dice.once_in(2) ? DEHLBAZIN_LOCKABLE_PACKED_TABLE : DEHLBAZIN_LOCKABLE_NAME;
+    const bool any = step.a == DEHLBAZIN_LOCKABLE_PACKED_TABLE && dice.once_in(2);
+    step.b = any ? dice.any() : number_near(dice, known.names);
+    return step;
+}
+
 // A settings record, which ends what the store was: so it is mostly one that is refused.
 static Step some_start_with_settings(Dice &dice)
 {
@@ -127,6 +137,9 @@ static Step some_step(Dice &dice, const Known &known)
     case Op::load_loose:
     case Op::load_packed:
         return some_load(dice, known, step.op == Op::load_packed);
+    case Op::place_lock:
+    case Op::lift_lock:
+        return some_locking(dice, known, step.op);
     case Op::start_with_settings:
         return some_start_with_settings(dice);
     case Op::prepare:
@@ -151,7 +164,7 @@ static Step next_step(Dice &dice, const Known &known)
     if (known.prepared)
         return dice.once_in(2) ? some_commit(dice) : Step{Op::read_row, number_near(dice, 4)};
     if (dice.once_in(4))
-        return Step{dice.once_in(2) ? Op::unlock_packed : Op::unlock_name, number_near(dice, known.names)};
+        return some_locking(dice, known, Op::lift_lock);
     if (known.names < 4) {
         Step step{Op::add_name};
         step.bytes = some_name(dice);
@@ -185,6 +198,7 @@ struct Pair {
     Typed typed;
     Known known;
     Tally numbers, done;
+    Tally placed, lifted;          // locks, by the kind of what has them
     Tally name_places, row_places; // where the calls that read found values
 
     Pair() : typed(started()) {}
@@ -201,6 +215,10 @@ struct Pair {
         last = plain.number;
         if (!refused())
             done.given[size_t(step.op)]++;
+        if (!refused() && step.op == Op::place_lock)
+            placed.add(uint32_t(step.a));
+        if (!refused() && step.op == Op::lift_lock)
+            lifted.add(uint32_t(step.a));
         if (!refused() && step.op == Op::read_name)
             name_places.add(uint32_t(plain.places[DEHLBAZIN_READ_NAME_PLACE]));
         if (!refused() && step.op == Op::read_row)
@@ -242,6 +260,9 @@ void test_same(size_t calls, uint64_t seed)
     pair.numbers.all_met("the calls", {0, 1, 2, 3, 4, 6, 7, 8, 9, 10, 11, 12, 13, 15, 16, 17, 18, 20, 21, 22, 23, 24, 25});
     pair.name_places.all_met("the places of names", {1, 2, 3, 4, 5});
     pair.row_places.all_met("the places of rows", {1, 2, 4, 5}); // 3 is too rare to be asked for
+    for (uint64_t kind : {DEHLBAZIN_LOCKABLE_NAME, DEHLBAZIN_LOCKABLE_PACKED_TABLE})
+        check(pair.placed.given[kind] > calls / 2000 && pair.lifted.given[kind] > calls / 2000,
+              "locks of kind " + std::to_string(kind) + " are hardly ever placed or lifted");
     for (size_t op = 0; op < OPS; op++)
         check(pair.done.given[op] > calls / 2000,
               "call " + std::to_string(op) + " was done " + std::to_string(pair.done.given[op]) + " times");

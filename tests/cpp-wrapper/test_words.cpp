@@ -42,7 +42,7 @@ static void test_refusals()
          "name 2: a delete that expects nothing");
     says(store, store.prepare(list_of({Delete(tag), Delete(tag)})), "refs/tags/spring: two rows have this name",
          "name 2: two rows have this name");
-    done(store.lock_name(tag));
+    done(store.place_lock(tag));
     says(store, prepare(Delete(tag)), "refs/tags/spring: its lock is foreign, or that of a name that its links lead to",
          "name 2: its lock is foreign, or that of a name that its links lead to");
     const NameNumber shelf = store.add_name("refs/heads/aisle/shelf").value();
@@ -60,6 +60,7 @@ static void test_refusals()
 static void test_others()
 {
     Marked site;
+    says(to_string(Refusal(Reason::malformed)), "the edit list, mode, setting, kind of lock or committer is malformed");
     says(to_string(Refusal(Reason::malformed_record)), "the settings record is malformed, or a setting is out of bounds");
     says(to_string(Refusal(Reason::unknown_version)), "the settings record has a version that is not known");
     says(to_string(Refusal(Reason::short_buffer)), "the buffer is shorter than the settings record");

@@ -121,18 +121,14 @@ Reply Typed::load(const Step &step)
     return reply_of(store_.load_loose(name, *target_of(step.b, step.c)));
 }
 
+// The number beside the packed table cannot be said with types. Through dehlbazin.h it is passed, and does nothing.
 Reply Typed::lock(const Step &step)
 {
-    switch (step.op) {
-    case Op::lock_name:
-        return reply_of(store_.lock_name(NameNumber(step.a)));
-    case Op::unlock_name:
-        return reply_of(store_.unlock_name(NameNumber(step.a)));
-    case Op::lock_packed:
-        return reply_of(store_.lock_packed());
-    default:
-        return reply_of(store_.unlock_packed());
-    }
+    const bool place = step.op == Op::place_lock;
+    if (step.a == DEHLBAZIN_LOCKABLE_PACKED_TABLE)
+        return reply_of(place ? store_.place_lock(packed_table) : store_.lift_lock(packed_table));
+    const NameNumber name(step.b);
+    return reply_of(place ? store_.place_lock(name) : store_.lift_lock(name));
 }
 
 Reply Typed::prepare(const Step &step)
@@ -215,10 +211,8 @@ Reply Typed::make(const Step &step)
     case Op::load_loose:
     case Op::load_packed:
         return load(step);
-    case Op::lock_name:
-    case Op::unlock_name:
-    case Op::lock_packed:
-    case Op::unlock_packed:
+    case Op::place_lock:
+    case Op::lift_lock:
         return lock(step);
     case Op::prepare:
         return prepare(step);

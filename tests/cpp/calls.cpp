@@ -30,9 +30,8 @@ static std::string in_digits(std::string_view bytes)
 
 std::string describe(const Call &call)
 {
-    static const char *const names[] = {"start", "add_name", "name_bytes", "load_loose", "load_packed", "lock_name",
-                                        "unlock_name", "lock_packed", "unlock_packed", "prepare", "commit", "rollback",
-                                        "read_name", "read_line", "read_row"};
+    static const char *const names[] = {"start", "add_name", "name_bytes", "load_loose", "load_packed", "place_lock", "lift_lock",
+                                        "prepare", "commit", "rollback", "read_name", "read_line", "read_row"};
     std::string text = names[size_t(call.op)];
     if (call.op == Op::prepare)
         return text + " '" + in_digits(call.bytes) + "' in mode " + std::to_string(call.a);
@@ -41,9 +40,9 @@ std::string describe(const Call &call)
     size_t numbers = 1;
     if (call.op == Op::load_loose || call.op == Op::load_packed)
         numbers = 3;
-    else if (call.op == Op::read_line || call.op == Op::commit)
+    else if (call.op == Op::place_lock || call.op == Op::lift_lock || call.op == Op::read_line || call.op == Op::commit)
         numbers = 2;
-    else if (call.op == Op::lock_packed || call.op == Op::unlock_packed || call.op == Op::rollback)
+    else if (call.op == Op::rollback)
         numbers = 0;
     const uint64_t all[] = {call.a, call.b, call.c};
     for (size_t i = 0; i < numbers; i++)
@@ -103,6 +102,18 @@ static Answer turn(uint8_t &lock, uint8_t from, uint8_t to)
     return answer(0);
 }
 
+// The kind comes first. Beside the packed table no number is looked at.
+static Answer turn_lock(Store &store, uint64_t kind, uint64_t number, uint8_t from, uint8_t to)
+{
+    if (kind == LOCKABLE_PACKED_TABLE)
+        return turn(store.packed_lock, from, to);
+    if (kind != LOCKABLE_NAME)
+        return answer(2);
+    if (number >= store.entries.size())
+        return answer(3, {number});
+    return turn(store.entries[number].lock, from, to);
+}
+
 static Answer rollback(Store &store)
 {
     size_t rows = store.rows.size();
@@ -136,14 +147,13 @@ static Answer read_row(const Store &store, uint64_t place)
                       row.leaf_previous, reading_place(store.entries[row.name], opens_packed(store))});
 }
 
+// The first number is a name's.
 static bool takes_name(Op op)
 {
     switch (op) {
     case Op::name_bytes:
     case Op::load_loose:
     case Op::load_packed:
-    case Op::lock_name:
-    case Op::unlock_name:
     case Op::read_name:
     case Op::read_line:
         return true;
@@ -169,14 +179,10 @@ Answer answer_of(Store &store, const Call &call)
         return load_loose(store, call.a, call.b, call.c);
     case Op::load_packed:
         return load_packed(store, call.a, call.b, call.c);
-    case Op::lock_name:
-        return turn(store.entries[call.a].lock, FREE, FOREIGN);
-    case Op::unlock_name:
-        return turn(store.entries[call.a].lock, FOREIGN, FREE);
-    case Op::lock_packed:
-        return turn(store.packed_lock, FREE, FOREIGN);
-    case Op::unlock_packed:
-        return turn(store.packed_lock, FOREIGN, FREE);
+    case Op::place_lock:
+        return turn_lock(store, call.a, call.b, FREE, FOREIGN);
+    case Op::lift_lock:
+        return turn_lock(store, call.a, call.b, FOREIGN, FREE);
     case Op::prepare:
         return prepare(store, call.bytes, call.a);
     case Op::commit:

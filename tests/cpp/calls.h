@@ -1,4 +1,4 @@
-// The fifteen calls on a store, from docs/SPEC.md: the number and the places that each gives, and what it does to the store.
+// The thirteen calls on a store, from docs/SPEC.md: the number and the places that each gives, and what it does to the store.
 #pragma once
 
 #include "store.h"
@@ -11,10 +11,8 @@ enum class Op {
     name_bytes,
     load_loose,
     load_packed,
-    lock_name,
-    unlock_name,
-    lock_packed,
-    unlock_packed,
+    place_lock,
+    lift_lock,
     prepare,
     commit,
     rollback,
@@ -23,6 +21,9 @@ enum class Op {
     read_row,
 };
 constexpr size_t OPS = size_t(Op::read_row) + 1;
+
+// What a foreign lock is placed on. All 64 bits of a kind count, so it is as wide as the call's.
+enum : uint64_t { LOCKABLE_NAME = 0, LOCKABLE_PACKED_TABLE = 1 };
 
 // A call: its bytes, if it takes any, and its numbers in order.
 struct Call {
@@ -39,10 +40,12 @@ inline Call add_name(std::string_view name) { return {Op::add_name, std::string(
 inline Call name_bytes(uint64_t name) { return {Op::name_bytes, {}, name}; }
 inline Call load_loose(uint64_t name, uint64_t kind, uint64_t number) { return {Op::load_loose, {}, name, kind, number}; }
 inline Call load_packed(uint64_t name, uint64_t kind, uint64_t number) { return {Op::load_packed, {}, name, kind, number}; }
-inline Call lock_name(uint64_t name) { return {Op::lock_name, {}, name}; }
-inline Call unlock_name(uint64_t name) { return {Op::unlock_name, {}, name}; }
-inline Call lock_packed() { return {Op::lock_packed, {}}; }
-inline Call unlock_packed() { return {Op::unlock_packed, {}}; }
+inline Call place_lock(uint64_t kind, uint64_t number) { return {Op::place_lock, {}, kind, number}; }
+inline Call lift_lock(uint64_t kind, uint64_t number) { return {Op::lift_lock, {}, kind, number}; }
+inline Call place_lock_on_name(uint64_t name) { return place_lock(LOCKABLE_NAME, name); }
+inline Call lift_lock_of_name(uint64_t name) { return lift_lock(LOCKABLE_NAME, name); }
+inline Call place_lock_on_packed(uint64_t number = 0) { return place_lock(LOCKABLE_PACKED_TABLE, number); }
+inline Call lift_lock_of_packed(uint64_t number = 0) { return lift_lock(LOCKABLE_PACKED_TABLE, number); }
 inline Call prepare(std::string_view list, uint64_t mode) { return {Op::prepare, std::string(list), mode}; }
 inline Call commit(uint64_t committer, uint64_t allowance) { return {Op::commit, {}, committer, allowance}; }
 inline Call rollback() { return {Op::rollback, {}}; }

@@ -56,14 +56,10 @@ static uint32_t make(const Call &call, uint8_t *region, size_t region_len, uint8
         return dehlbazin_load_loose(region, region_len, call.a, call.b, call.c, answer, answer_len);
     case Op::load_packed:
         return dehlbazin_load_packed(region, region_len, call.a, call.b, call.c, answer, answer_len);
-    case Op::lock_name:
-        return dehlbazin_lock_name(region, region_len, call.a, answer, answer_len);
-    case Op::unlock_name:
-        return dehlbazin_unlock_name(region, region_len, call.a, answer, answer_len);
-    case Op::lock_packed:
-        return dehlbazin_lock_packed(region, region_len, answer, answer_len);
-    case Op::unlock_packed:
-        return dehlbazin_unlock_packed(region, region_len, answer, answer_len);
+    case Op::place_lock:
+        return dehlbazin_place_lock(region, region_len, call.a, call.b, answer, answer_len);
+    case Op::lift_lock:
+        return dehlbazin_lift_lock(region, region_len, call.a, call.b, answer, answer_len);
     case Op::prepare:
         return lend(call.bytes, [&](const uint8_t *list, size_t list_len) {
             return dehlbazin_prepare(region, region_len, list, list_len, call.a, answer, answer_len);

@@ -1,6 +1,7 @@
 #include "random_calls.h"
 
 #include "commit.h"
+#include "samples.h"
 #include "writes.h"
 
 Call random_prepare(Dice &dice, const Store &s)
@@ -53,31 +54,39 @@ static Call random_load_packed(Dice &dice, uint64_t names)
     return call::load_packed(number_near(dice, names), kind, number);
 }
 
-// Of a foreign lock, if there is one, or of any.
-static Call random_unlock(Dice &dice, const Store &s)
+// Of a foreign lock of a name, if there is one, or of any.
+static Call random_lift(Dice &dice, const Store &s)
 {
     uint64_t names = s.entries.size();
     if (names == 0 || dice.once_in(2))
-        return call::unlock_name(number_near(dice, names));
+        return call::lift_lock_of_name(number_near(dice, names));
     uint64_t name = dice.below(names);
     for (uint64_t step = 0; step < names && s.entries[name].lock != FOREIGN; step++)
         name = (name + 1) % names;
-    return call::unlock_name(name);
+    return call::lift_lock_of_name(name);
 }
 
+// Mostly on a name or on the packed table, beside which any number does; now and then of a kind that there is not.
 static Call random_lock_call(Dice &dice, const Store &s)
 {
-    switch (dice.below(6)) {
+    uint64_t number = number_near(dice, s.entries.size());
+    switch (dice.below(26)) {
     case 0:
+        return call::place_lock(dice.one_of(other_kinds()), number);
     case 1:
-        return call::lock_name(number_near(dice, s.entries.size()));
+        return call::lift_lock(dice.one_of(other_kinds()), number);
     case 2:
     case 3:
-        return random_unlock(dice, s);
     case 4:
-        return call::lock_packed();
+    case 5:
+        return call::place_lock_on_packed(number);
+    case 6:
+    case 7:
+    case 8:
+    case 9:
+        return call::lift_lock_of_packed(number);
     default:
-        return call::unlock_packed();
+        return dice.once_in(2) ? call::place_lock_on_name(number) : random_lift(dice, s);
     }
 }
 

@@ -4,7 +4,7 @@
 #include "calls.h"
 #include "randoms.h"
 
-// Any of the fifteen, with numbers that are good for the most part.
+// Any of the thirteen, with numbers that are good for the most part.
 Call random_call(Dice &dice, const Store &store);
 
 // Mostly a list in a good mode.

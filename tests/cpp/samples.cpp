@@ -11,6 +11,12 @@ std::vector<uint64_t> too_large(uint64_t k)
             ~uint64_t(0)};
 }
 
+std::vector<uint64_t> other_kinds()
+{
+    const uint64_t past_32 = uint64_t(1) << 32, last = uint64_t(1) << 63;
+    return {2, 3, 255, 256, 257, 65535, 65536, 65537, past_32, past_32 + 1, last, last + 1, ~uint64_t(0)};
+}
+
 Store busy()
 {
     Store s;

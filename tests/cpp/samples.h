@@ -6,6 +6,9 @@
 // Numbers that a shorter number would take for k, and a few more that are registered nowhere.
 std::vector<uint64_t> too_large(uint64_t k);
 
+// Numbers that are no kind of what a lock is placed on. Shortened, many of them would be one.
+std::vector<uint64_t> other_kinds();
+
 // Five names with each kind of value, locks of both kinds, and six log lines. Nothing is prepared.
 Store busy();
 

@@ -500,7 +500,7 @@ static void test_loads_refused()
     world.gives(call::load_loose(A_B, LINK, 65536), 3, {65536});
     world.gives(call::load_loose(65536 + A_B, OBJECT, 9), 3, {65536 + A_B});
     for (uint64_t name : {A, A_B})
-        world.gives(call::lock_name(name), 0);
+        world.gives(call::place_lock_on_name(name), 0);
     world.gives(call::load_loose(A_B, OBJECT, 9), 21);
     world.gives(call::load_loose(A_B, NONE, 1), 21); // for its number
     world.gives(call::load_loose(A_B, NONE, 0), 0);

@@ -35,9 +35,10 @@ static std::vector<Call> calls()
 {
     using namespace call;
     return {
-        add_name("refs/heads/new"), name_bytes(0), load_loose(A, NONE, 0), load_packed(A, NONE, 0), lock_name(TAG),
-        unlock_name(TAG), lock_packed(), unlock_packed(), prepare(write_list({deleting(TAG)}), 1), commit(1, ~uint64_t(0)),
-        commit(1, 0), rollback(), read_name(A), read_line(A, 0), read_row(0),
+        add_name("refs/heads/new"), name_bytes(0), load_loose(A, NONE, 0), load_packed(A, NONE, 0),
+        place_lock_on_name(TAG), lift_lock_of_name(TAG), place_lock_on_packed(), lift_lock_of_packed(),
+        prepare(write_list({deleting(TAG)}), 1), commit(1, ~uint64_t(0)), commit(1, 0), rollback(),
+        read_name(A), read_line(A, 0), read_row(0),
     };
 }
 

@@ -61,7 +61,7 @@ static void commits_site(const Store &store, const std::vector<Edit> &edits, uin
 {
     World world(store);
     check(world.agrees(call::prepare(write_list(edits), mode), at).number == 0, what + ": the list is prepared", at);
-    world.agrees(call::lock_name(7), at);
+    world.agrees(call::place_lock_on_name(7), at);
     stops_everywhere(world.store(), Led::by_calls, what, at);
 }
 
@@ -138,7 +138,7 @@ static void test_prepared_by_chance()
             for (int tries = 0; tries < 50 && world.store().mode == 0; tries++)
                 world.agrees(random_prepare(dice, world.store()));
             for (uint64_t others = dice.below(3); others > 0; others--)
-                world.agrees(call::lock_name(dice.below(world.store().entries.size())));
+                world.agrees(call::place_lock_on_name(dice.below(world.store().entries.size())));
             if (world.store().mode == 0)
                 continue;
             kinds.add(world.store());

@@ -42,7 +42,7 @@ static void test_refused()
                     world.gives(call::commit(committer, allowance), 2);
     world.gives(call::read_row(3), 0,
                 {3, 2, 0, 0, 0, 4, OBJECT, 0x0102030405060708, NONE, 0, 0, 0, 0, PLACE_ABSENT_BEHIND_BROKEN});
-    world.gives(call::lock_name(0), 20);
+    world.gives(call::place_lock_on_name(0), 20);
     world.gives(call::load_loose(5, OBJECT, 1), 15);
     world.gives(call::commit(65535, ALL), 0, {5});
     world.gives(call::read_line(0, 0), 0, {7, 8, 65535, 0x0203});
@@ -108,11 +108,11 @@ static void test_after()
         world.gives(call::commit(1, ALL), 15);
         world.gives(call::rollback(), 0, {0});
         for (uint64_t name : {0, 1, 2, 3}) {
-            world.gives(call::unlock_name(name), 20);
-            world.gives(call::lock_name(name), 0);
-            world.gives(call::unlock_name(name), 0);
+            world.gives(call::lift_lock_of_name(name), 20);
+            world.gives(call::place_lock_on_name(name), 0);
+            world.gives(call::lift_lock_of_name(name), 0);
         }
-        world.gives(call::unlock_packed(), 20);
+        world.gives(call::lift_lock_of_packed(), 20);
         world.gives(call::load_loose(3, LINK, 2), 0);
         world.gives(call::prepare(write_list(edits), 2), 0, {3});
         world.agrees(call::commit(2, ALL));
@@ -135,14 +135,14 @@ static void test_foreign()
     Store store = half_logged();
     store.entries[0].loose = object(5);
     store.entries[3].lock = FOREIGN;
-    const std::vector<Call> others = {call::lock_name(0), call::add_name("refs/heads/new"), call::lock_name(4)};
+    const std::vector<Call> others = {call::place_lock_on_name(0), call::add_name("refs/heads/new"), call::place_lock_on_name(4)};
     const Store held = after_preparing(store, {updating(0, object(5)), updating(1, object(6))}, 2, others);
     stops_everywhere(held, Led::by_calls, "locks of others");
     World world(held);
     world.gives(call::commit(0, ALL), 0, {2});
     for (uint64_t name : {0, 3, 4})
-        world.gives(call::lock_name(name), 20);
-    world.gives(call::lock_name(1), 0);
+        world.gives(call::place_lock_on_name(name), 20);
+    world.gives(call::place_lock_on_name(1), 0);
     world.gives(call::load_loose(0, NONE, 0), 0);
     world.gives(call::read_name(0), 0, {OBJECT, 5, PLACE_PACKED}); // though its lock was dropped
 
@@ -152,7 +152,7 @@ static void test_foreign()
     stops_everywhere(shut, Led::by_calls, "the packed table of others");
     World other(shut);
     other.gives(call::commit(0, ALL), 0, {0});
-    other.gives(call::lock_packed(), 20);
+    other.gives(call::place_lock_on_packed(), 20);
 }
 
 // A transaction without rows has no writes, so that even an allowance of 0 is enough.

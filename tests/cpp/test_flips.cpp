@@ -9,15 +9,17 @@
 
 #include <atomic>
 
-// Every call but start tests the region, so they take turns. 19 of them, an odd number, so that each meets every bit of a byte:
+// Every call but start tests the region, so they take turns. 21 of them, an odd number, so that each meets every bit of a byte:
 // prepare has three lists, one for names without a packed value, one that meets the packed table's lock, and one that meets a value
-// above a name; the second load meets one beneath; commit makes all writes, and those before the third.
+// above a name; the second load meets one beneath; commit makes all writes, and those before the third. Locks are placed and lifted
+// by each kind, and by one that there is not: the region comes before the kind.
 static std::vector<Call> calls()
 {
     using namespace call;
     return {
         read_row(1000000), read_row(1), rollback(), read_name(1), name_bytes(4), load_loose(1, OBJECT, 6),
-        load_packed(1, NONE, 0), lock_name(0), unlock_name(2), lock_packed(), unlock_packed(), read_line(3, 0),
+        load_packed(1, NONE, 0), place_lock_on_name(0), lift_lock_of_name(2), place_lock_on_packed(~uint64_t(0)),
+        lift_lock_of_packed(2), place_lock(2, 0), lift_lock(uint64_t(1) << 32, 65536), read_line(3, 0),
         add_name("refs/heads/new"), prepare(write_list({updating(0, object(6)), deleting(3)}), 3),
         prepare(write_list({through(updating(0, object(6)))}), 1), commit(258, ~uint64_t(0)), commit(1, 2),
         prepare(write_list({log_only(deleting(5)), updating(1, link(0))}), 2), load_loose(4, BROKEN, 0),

@@ -17,10 +17,10 @@ extern "C" uint32_t move_from_c(uint8_t *region, size_t region_len, const uint8_
 extern "C" size_t settings_from_c(uint8_t *buffer, size_t buffer_len, uint32_t *number);
 extern "C" uint64_t site_from_c(uint8_t *region, size_t region_len, const uint8_t *record, size_t record_len, uint32_t *number);
 
-#if DEHLBAZIN_VERSION != 7000
-#error "the version is not 0.7.0, or #if cannot read it"
+#if DEHLBAZIN_VERSION != 8000
+#error "the version is not 0.8.0, or #if cannot read it"
 #endif
-static_assert(DEHLBAZIN_VERSION_MAJOR == 0 && DEHLBAZIN_VERSION_MINOR == 7 && DEHLBAZIN_VERSION_PATCH == 0);
+static_assert(DEHLBAZIN_VERSION_MAJOR == 0 && DEHLBAZIN_VERSION_MINOR == 8 && DEHLBAZIN_VERSION_PATCH == 0);
 static_assert(DEHLBAZIN_LAYOUT_VERSION == 1);
 static_assert(DEHLBAZIN_REGION_SIZE == REGION && DEHLBAZIN_ANSWER_SIZE == 16 * 8);
 
@@ -40,6 +40,7 @@ static_assert(DEHLBAZIN_KIND_LINK == LINK && DEHLBAZIN_KIND_BROKEN == BROKEN);
 static_assert(DEHLBAZIN_PLACE_LOOSE == PLACE_LOOSE && DEHLBAZIN_PLACE_PACKED == PLACE_PACKED);
 static_assert(DEHLBAZIN_PLACE_PACKED_BEHIND_BROKEN == PLACE_PACKED_BEHIND_BROKEN && DEHLBAZIN_PLACE_ABSENT == PLACE_ABSENT);
 static_assert(DEHLBAZIN_PLACE_ABSENT_BEHIND_BROKEN == PLACE_ABSENT_BEHIND_BROKEN);
+static_assert(DEHLBAZIN_LOCKABLE_NAME == LOCKABLE_NAME && DEHLBAZIN_LOCKABLE_PACKED_TABLE == LOCKABLE_PACKED_TABLE);
 static_assert(DEHLBAZIN_MODE_DELETIONS == 1 && DEHLBAZIN_MODE_UPDATES == 2 && DEHLBAZIN_MODE_UPDATES_REMOVE_LOOSE == 3);
 static_assert(DEHLBAZIN_ROW_UPDATE == UPDATE && DEHLBAZIN_ROW_DELETE == DELETE);
 static_assert(DEHLBAZIN_LOG_AND_REFERENCE == 0 && DEHLBAZIN_LOG_ONLY == 1);

@@ -118,18 +118,18 @@ static void test_full()
             world.gives(call::load_loose(name, 1, 1), 3, {name});
             world.gives(call::load_loose(0, 2, name), 3, {name});
             world.gives(call::load_packed(name, 1, 1), 3, {name});
-            world.gives(call::lock_name(name), 3, {name});
-            world.gives(call::unlock_name(name), 3, {name});
+            world.gives(call::place_lock_on_name(name), 3, {name});
+            world.gives(call::lift_lock_of_name(name), 3, {name});
             world.gives(call::read_name(name), 3, {name});
             world.gives(call::read_line(name, 0), 3, {name});
         }
     world.gives(call::load_loose(255, 2, 255), 0);
     world.gives(call::load_packed(255, 1, ~uint64_t(0)), 0);
-    world.gives(call::lock_name(255), 0);
+    world.gives(call::place_lock_on_name(255), 0);
     world.gives(call::read_name(255), 0, {2, 255, PLACE_LOOSE});
     world.gives(call::load_loose(255, 3, 0), 0);
     world.gives(call::read_name(255), 0, {1, ~uint64_t(0), PLACE_PACKED_BEHIND_BROKEN});
-    world.gives(call::unlock_name(255), 0);
+    world.gives(call::lift_lock_of_name(255), 0);
     world.gives(call::start(0), 0);
 }
 

@@ -28,8 +28,8 @@ static void test_kept()
                         bool kept = !unchanged || (mode == 3 && packable);
                         world.gives(call::prepare(write_list({made}), mode), 0, {1});
                         check(world.store().entries[0].lock == (kept ? OURS : FREE), "the lock that is kept or dropped");
-                        world.gives(call::lock_name(0), kept ? 20 : 0);
-                        world.gives(call::unlock_name(0), kept ? 20 : 0);
+                        world.gives(call::place_lock_on_name(0), kept ? 20 : 0);
+                        world.gives(call::lift_lock_of_name(0), kept ? 20 : 0);
                         world.gives(call::rollback(), 0, {1});
                         check(encode(world.store()) == encode(store), "rolled back");
                     }
@@ -147,19 +147,19 @@ static void test_while_prepared()
     world.gives(call::prepare(write_list({}), 2), 15);
     world.gives(call::load_loose(0, NONE, 0), 15);
     world.gives(call::load_packed(1, NONE, 0), 15);
-    world.gives(call::lock_name(0), 20);
-    world.gives(call::lock_packed(), 20);
-    world.gives(call::lock_name(1), 0);
-    world.gives(call::lock_name(2), 0);
-    world.gives(call::unlock_name(2), 0);
+    world.gives(call::place_lock_on_name(0), 20);
+    world.gives(call::place_lock_on_packed(), 20);
+    world.gives(call::place_lock_on_name(1), 0);
+    world.gives(call::place_lock_on_name(2), 0);
+    world.gives(call::lift_lock_of_name(2), 0);
     world.gives(call::add_name("refs/heads/new"), 0, {3});
-    world.gives(call::lock_name(3), 0);
+    world.gives(call::place_lock_on_name(3), 0);
     world.gives(call::read_row(1), 0, {2, 1, 0, 0, 0, 3, OBJECT, 9, OBJECT, 9, 0, 0, 0, PLACE_PACKED});
     world.gives(call::read_row(2), 0, {1, 1, 0, 0, 0, 3, OBJECT, 7, OBJECT, 7, 1, 0, 0, PLACE_LOOSE});
     world.gives(call::read_row(0), 0, {0, 1, 1, 0, 0, 3, LINK, 1, OBJECT, 7, 0, 0, 7, PLACE_LOOSE});
     world.gives(call::rollback(), 0, {3});
     world.gives(call::prepare(list, 1), 8, {0}); // the child's lock went to another
-    world.gives(call::unlock_name(1), 0);
+    world.gives(call::lift_lock_of_name(1), 0);
     world.gives(call::prepare(list, 1), 0, {3});
     world.gives(call::start(2), 0);
     world.gives(call::prepare(write_list({}), 3), 0, {0});

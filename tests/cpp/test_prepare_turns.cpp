@@ -206,8 +206,8 @@ static void test_opened()
                 Answer given = world.agrees(call::prepare(write_list(c.edits), mode));
                 check(given.number == 0, std::string(c.what) + ": is prepared");
                 check(world.store().packed_lock == (opened ? OURS : FREE), std::string(c.what) + ": the packed table's lock");
-                world.gives(call::lock_packed(), opened ? 20 : 0);
-                world.gives(call::unlock_packed(), opened ? 20 : 0);
+                world.gives(call::place_lock_on_packed(), opened ? 20 : 0);
+                world.gives(call::lift_lock_of_packed(), opened ? 20 : 0);
                 world.gives(call::rollback(), 0, {given.places[0]});
                 check(encode(world.store()) == encode(store), std::string(c.what) + ": rolled back");
             }

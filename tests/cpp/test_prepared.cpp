@@ -77,11 +77,11 @@ static void test_many_rows()
     world.gives(call::read_row(158), 0, {1, 2, 0, 0, 0, 0, 0, 0, NONE, 0, 1, 126, 0, PLACE_ABSENT});
     world.gives(call::read_row(160), 22);
     world.gives(call::read_row(256), 22);
-    world.gives(call::lock_name(0), 20);
+    world.gives(call::place_lock_on_name(0), 20);
     world.gives(call::rollback(), 0, {160});
     world.gives(call::rollback(), 0, {0});
     world.gives(call::read_row(0), 22);
-    world.gives(call::lock_name(0), 0);
+    world.gives(call::place_lock_on_name(0), 0);
 }
 
 static void test_in_the_way()
@@ -96,20 +96,20 @@ static void test_in_the_way()
             }
     // Rows 0, 1 and 3 keep their locks, row 2 dropped its own and another took it. Names 4 and 5 have no row.
     for (uint64_t name : {0, 1, 3}) {
-        world.gives(call::lock_name(name), 20);
-        world.gives(call::unlock_name(name), 20);
+        world.gives(call::place_lock_on_name(name), 20);
+        world.gives(call::lift_lock_of_name(name), 20);
     }
-    world.gives(call::lock_name(2), 20);
-    world.gives(call::unlock_name(2), 0);
-    world.gives(call::unlock_name(2), 20);
-    world.gives(call::lock_name(2), 0);
-    world.gives(call::unlock_name(4), 0);
-    world.gives(call::lock_name(4), 0);
-    world.gives(call::lock_name(5), 0);
-    world.gives(call::lock_name(6), 3, {6});
-    world.gives(call::unlock_name(65536), 3, {65536});
-    world.gives(call::lock_packed(), 20);
-    world.gives(call::unlock_packed(), 20);
+    world.gives(call::place_lock_on_name(2), 20);
+    world.gives(call::lift_lock_of_name(2), 0);
+    world.gives(call::lift_lock_of_name(2), 20);
+    world.gives(call::place_lock_on_name(2), 0);
+    world.gives(call::lift_lock_of_name(4), 0);
+    world.gives(call::place_lock_on_name(4), 0);
+    world.gives(call::place_lock_on_name(5), 0);
+    world.gives(call::place_lock_on_name(6), 3, {6});
+    world.gives(call::lift_lock_of_name(65536), 3, {65536});
+    world.gives(call::place_lock_on_packed(), 20);
+    world.gives(call::lift_lock_of_packed(), 20);
     // Reads go on.
     world.gives(call::read_name(0), 0, {LINK, 1, PLACE_LOOSE});
     world.gives(call::read_name(1), 0, {OBJECT, 7, PLACE_LOOSE});
@@ -124,13 +124,13 @@ static void test_in_the_way()
     for (uint64_t name : {0, 1, 3})
         check(world.store().entries[name].lock == FREE, "a lock that was ours is free");
     for (uint64_t name : {2, 4, 5})
-        world.gives(call::lock_name(name), 20);
+        world.gives(call::place_lock_on_name(name), 20);
     for (uint64_t name : {0, 1, 3}) {
-        world.gives(call::unlock_name(name), 20);
-        world.gives(call::lock_name(name), 0);
+        world.gives(call::lift_lock_of_name(name), 20);
+        world.gives(call::place_lock_on_name(name), 0);
     }
-    world.gives(call::unlock_packed(), 20);
-    world.gives(call::lock_packed(), 0);
+    world.gives(call::lift_lock_of_packed(), 20);
+    world.gives(call::place_lock_on_packed(), 0);
     world.gives(call::load_loose(1, OBJECT, 8), 0);
     world.gives(call::load_packed(1, OBJECT, 8), 0);
     world.gives(call::rollback(), 0, {0});
@@ -145,16 +145,16 @@ static void test_modes()
         World world(prepared_in(mode));
         for (uint64_t name = 0; name < 4; name++) {
             check(world.store().entries[name].lock == (kept[name] ? OURS : FREE), "the sample's lock");
-            world.gives(call::unlock_name(name), 20);
-            world.gives(call::lock_name(name), kept[name] ? 20 : 0);
+            world.gives(call::lift_lock_of_name(name), 20);
+            world.gives(call::place_lock_on_name(name), kept[name] ? 20 : 0);
         }
         check(world.store().packed_lock == (opened ? OURS : FREE), "the sample's packed lock");
-        world.gives(call::unlock_packed(), 20);
-        world.gives(call::lock_packed(), opened ? 20 : 0);
+        world.gives(call::lift_lock_of_packed(), 20);
+        world.gives(call::place_lock_on_packed(), opened ? 20 : 0);
         world.gives(call::rollback(), 0, {4});
         for (uint64_t name = 0; name < 4; name++)
-            world.gives(call::lock_name(name), kept[name] ? 0 : 20);
-        world.gives(call::lock_packed(), opened ? 0 : 20);
+            world.gives(call::place_lock_on_name(name), kept[name] ? 0 : 20);
+        world.gives(call::place_lock_on_packed(), opened ? 0 : 20);
     }
 }
 
@@ -168,7 +168,7 @@ static void test_no_rows()
         world.gives(call::load_loose(1, OBJECT, 8), 15);
         world.gives(call::load_packed(1, NONE, 0), 15);
         world.gives(call::read_row(0), 22);
-        world.gives(call::unlock_packed(), 0);
+        world.gives(call::lift_lock_of_packed(), 0);
         world.gives(call::rollback(), 0, {0});
         world.gives(call::load_loose(1, OBJECT, 8), 0);
     }

@@ -7,6 +7,7 @@
 #include "tests.h"
 #include "world.h"
 
+#include <algorithm>
 #include <cstdio>
 
 static const int STEPS = 12;
@@ -14,20 +15,48 @@ static const int STEPS = 12;
 // With fewer sequences than this, some numbers may not come at all.
 static const size_t ENOUGH = 10000;
 
+// Which numbers were given where locks were placed or lifted, by what it was done to: a name, the packed table, or neither.
+struct Locking {
+    Tally placed[3], lifted[3];
+
+    void add(const Call &call, uint32_t number)
+    {
+        const size_t kind = size_t(std::min<uint64_t>(call.a, 2));
+        if (call.op == Op::place_lock)
+            placed[kind].add(number);
+        if (call.op == Op::lift_lock)
+            lifted[kind].add(number);
+    }
+
+    void all_met() const
+    {
+        placed[0].all_met("locks placed on names in sequences", {0, 3, 20});
+        lifted[0].all_met("locks lifted from names in sequences", {0, 3, 20});
+        placed[1].all_met("locks placed on the packed table in sequences", {0, 20});
+        lifted[1].all_met("locks lifted from the packed table in sequences", {0, 20});
+        placed[2].all_met("locks placed on neither in sequences", {2});
+        lifted[2].all_met("locks lifted from neither in sequences", {2});
+        for (size_t kind : {0, 1})
+            check(placed[kind].given[0] > 100 && lifted[kind].given[0] > 100, "a lock is hardly ever placed or lifted");
+    }
+};
+
 // What came in all sequences: how often each call was done, which numbers were given, those of prepare and of commit apart, where
 // values were found, and how often names above and beneath others mattered.
 struct Met {
     std::atomic<size_t> done[OPS] = {};
     Tally calls, preparations, commits, starts;
+    Locking locking;
     Tally name_places, row_places, unseen; // the last of rows that do not see what is packed, where read_name would
     Nearness near;
 
-    void add(Op op, uint32_t number)
+    void add(const Call &call, uint32_t number)
     {
-        Tally &tally = op == Op::prepare ? preparations : op == Op::commit ? commits : calls;
+        Tally &tally = call.op == Op::prepare ? preparations : call.op == Op::commit ? commits : calls;
         tally.given[number]++;
+        locking.add(call, number);
         if (number == 0)
-            done[size_t(op)]++;
+            done[size_t(call.op)]++;
     }
 
     // A read that was done, on this store.
@@ -50,6 +79,7 @@ struct Met {
         preparations.all_met("prepare in sequences", {0, 2, 3, 4, 6, 7, 8, 9, 10, 11, 12, 13, 14, 15, 25});
         commits.all_met("commit in sequences", {0, 2, 15, 16, 17});
         starts.all_met("start with settings in sequences", {0, 23, 24});
+        locking.all_met();
         name_places.all_met("the places of names in sequences", {1, 2, 3, 4, 5});
         row_places.all_met("the places of rows in sequences", {1, 2, 3, 4, 5});
         unseen.all_met("the places of rows that do not see what is packed, in sequences", {4}); // 5 is too rare to be asked for
@@ -75,7 +105,7 @@ static void play(Dice &dice, Met &met)
     auto make = [&](const Call &call) {
         const Store before = world.store();
         const Answer given = world.agrees(call);
-        met.add(call.op, given.number);
+        met.add(call, given.number);
         met.add_places(call, given, before);
         near.add(call, given, before, world.store());
     };

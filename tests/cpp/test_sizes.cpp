@@ -19,7 +19,9 @@ static std::vector<Call> calls()
         start(2), start(3), add_name("NEW"), add_name("bad"), add_name(""), name_bytes(1), name_bytes(65536),
         load_loose(1, 1, 9), load_loose(9, 1, 9), load_loose(1, 4, 0),
         load_packed(1, 1, 9), load_packed(9, 1, 9), load_packed(0, 1, 9),
-        lock_name(0), lock_name(2), unlock_name(2), unlock_name(65536), lock_packed(), unlock_packed(), rollback(),
+        place_lock_on_name(0), place_lock_on_name(2), lift_lock_of_name(2), lift_lock_of_name(65536),
+        place_lock_on_packed(), place_lock_on_packed(65536), lift_lock_of_packed(), lift_lock_of_packed(~uint64_t(0)),
+        place_lock(2, 0), place_lock(256, 65536), lift_lock(3, 65536), lift_lock((uint64_t(1) << 32) + 1, 2), rollback(),
         prepare(list, 1), prepare(list, 4), prepare("", 1), prepare(write_list({}), 2), prepare(repeated, 3),
         commit(1, 5), commit(0, 0), commit(65536, 1),
         read_name(1), read_name(65536), read_line(0, 1), read_line(0, 3), read_row(0), read_row(~uint64_t(0)),
@@ -125,7 +127,7 @@ static void test_start()
             world.gives(call::name_bytes(0), 3, {0});
             world.gives(call::read_row(0), 22);
             world.gives(call::rollback(), 0, {0});
-            world.gives(call::lock_packed(), 0);
+            world.gives(call::place_lock_on_packed(), 0);
         }
     World world(prepared());
     for (uint64_t setting : {3, 4, 255})

@@ -6,8 +6,8 @@ using namespace dehlbazin;
 void planner(Store &store)
 {
 #ifdef REFUSED
-    store.lock_packed(); // refused
+    store.place_lock(packed_table); // refused
 #else
-    (void)store.lock_packed();
+    (void)store.place_lock(packed_table);
 #endif
 }

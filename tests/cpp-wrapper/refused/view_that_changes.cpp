@@ -6,7 +6,7 @@ using namespace dehlbazin;
 Result<std::string_view> planner(View &view)
 {
 #ifdef REFUSED
-    return view.lock_name(NameNumber(0)); // refused
+    return view.place_lock(NameNumber(0)); // refused
 #else
     return view.name_bytes(NameNumber(0));
 #endif
