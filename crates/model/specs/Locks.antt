@@ -7,7 +7,7 @@ use Rattle.model.specs.declared.Lock.the-variants.{Free, Foreign}
 use Rattle.model.specs.declared.Refusal.the-variants.{Malformed, WrongLock}
 use Rattle.model.specs.Store.{Store, entryAt, isLock, putLock, changeEntry, withPackedLock}
 use Rattle.model.specs.Outcome.{refuseIf}
-use Rattle.model.specs.Reply.{Reply, _>>=_, _>>_, known}
+use Rattle.model.specs.Reply.{Reply, _>>_, known}
 use Rattle.model.specs.Reply.Call.{placeLock, liftLock}
 use Rattle.model.specs.Reply.Reply.{done, refused}
 use Rattle.model.specs.Reply.Given.{nothing}

@@ -74,7 +74,8 @@ fn say_word(table: &[u8], word: u64) {
     }
 }
 
-// A number that a call with these two first numbers gave is the one that it was to give, or the case differs. Place 16 is the number that it returned.
+// A number that a call with these two first numbers gave is the one that it was to give, or the case differs. Place 16 is the number
+// that it returned.
 pub fn gave(notes: &mut Notes, call: u64, a: u64, b: u64, place: u64, expected: u64, found: u64) {
     if expected != found {
         say_where(notes, b"");
