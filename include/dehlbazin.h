@@ -4,10 +4,12 @@
  * docs/SETTINGS.md what stands in a settings record.
  *
  * These are the thirteen calls of docs/SPEC.md, each of which takes the region first, then its own arguments, then the answer
- * record; and at the end the four of docs/SETTINGS.md, of which one takes a region. Each run of bytes is a pointer and a length.
+ * record; then the three of a list that arrives in fragments, of which one takes a region; and at the end the four of
+ * docs/SETTINGS.md, of which one takes a region. Each run of bytes is a pointer and a length.
  * Each call returns a number: DEHLBAZIN_DONE, or the reason of a refusal. A refused call changes no byte of the region, or of the
- * buffer that it was to write into. Two numbers are neither: with DEHLBAZIN_NO_COMMITTER and DEHLBAZIN_USED_UP dehlbazin_commit
- * has stopped on its way, and what it wrote until then stays.
+ * buffer that it was to write into, but for one: dehlbazin_close_receiver leaves a fresh receiver, refused or not. Two numbers are
+ * neither: with DEHLBAZIN_NO_COMMITTER and DEHLBAZIN_USED_UP dehlbazin_commit has stopped on its way, and what it wrote until then
+ * stays.
  *
  * The answer record has DEHLBAZIN_ANSWER_SIZE bytes: 16 places of 8, big-endian, which dehlbazin_place reads. A call that is given
  * a record of that size fills all of it, with 0 in each place that it does not use. A call that is given any other size
@@ -22,11 +24,11 @@
  * What no call can test, so that the caller must see to it:
  *   - that each pointer is good for its length. (With length 0 it may be null. One to bytes need not be aligned. The two to
  *     uint64_t, which dehlbazin_write_settings takes, are aligned as a uint64_t is.)
- *   - that all that is lent to one call lies apart: region, name, list, settings record, buffer, numbers, lengths and answer. The
- *     bytes that dehlbazin_name_bytes points out lie in the region, so a name got from it is copied before it is passed to
- *     dehlbazin_add_name.
- *   - that calls on one region come one after the other. (Calls on different regions may come at the same time: no call
- *     has state of its own, or keeps a pointer when it returns.)
+ *   - that all that is lent to one call lies apart: region, name, list, receiver, fragment, settings record, buffer, numbers,
+ *     lengths and answer. The bytes that dehlbazin_name_bytes points out lie in the region, so a name got from it is copied
+ *     before it is passed to dehlbazin_add_name.
+ *   - that calls on one region, or on one receiver, come one after the other. (Calls on different ones may come at the same time:
+ *     no call has state of its own, or keeps a pointer when it returns.)
  */
 #ifndef DEHLBAZIN_H
 #define DEHLBAZIN_H
@@ -35,10 +37,10 @@
 #include <stdint.h>
 
 /* ---- the version of this interface: of this header and of the archive's entries. Each part is below 1000, so that a later
- * version is a greater number: 0.8.0 is 8000, and 1.2.3 would be 1002003. #if can test it. */
+ * version is a greater number: 0.9.0 is 9000, and 1.2.3 would be 1002003. #if can test it. */
 
 #define DEHLBAZIN_VERSION_MAJOR 0
-#define DEHLBAZIN_VERSION_MINOR 8
+#define DEHLBAZIN_VERSION_MINOR 9
 #define DEHLBAZIN_VERSION_PATCH 0
 #define DEHLBAZIN_VERSION                                                                                                    \
     (DEHLBAZIN_VERSION_MAJOR * 1000000 + DEHLBAZIN_VERSION_MINOR * 1000 + DEHLBAZIN_VERSION_PATCH)
@@ -51,13 +53,15 @@
 
 #define DEHLBAZIN_REGION_SIZE 49549
 #define DEHLBAZIN_ANSWER_SIZE 128
+#define DEHLBAZIN_RECEIVER_SIZE 870
 
 /* ---- the numbers that calls return. 4 to 14 and 25 are given by prepare alone, and 5 by nothing: no list comes to more than 160
- * rows. 16 and 17 are given by commit alone, which has then stopped before a write: they are no refusals. 23, 24 and 33 are given
- * by the four calls of the settings record alone. The numbers between are given by nothing. */
+ * rows. 16 and 17 are given by commit alone, which has then stopped before a write: they are no refusals. 26 is given by taking a
+ * fragment alone, and 23, 24 and 33 by the four calls of the settings record alone. The numbers between are given by nothing. Closing
+ * a receiver gives what prepare gives. */
 
 #define DEHLBAZIN_DONE 0
-#define DEHLBAZIN_BAD_REGION 1                   /* the region is not a good one, or the answer has the wrong size */
+#define DEHLBAZIN_BAD_REGION 1                   /* the region or the receiver is no good one, or the answer has the wrong size */
 #define DEHLBAZIN_MALFORMED 2                    /* an edit list, a mode, a setting, a kind of lock or a committer is malformed */
 #define DEHLBAZIN_NOT_REGISTERED 3               /* no name has that number, which comes back whole */
 #define DEHLBAZIN_REFERENCE_CYCLE 4              /* links are still followed in a fifth round */
@@ -82,6 +86,7 @@
 #define DEHLBAZIN_MALFORMED_RECORD 23            /* a settings record is malformed, or settings are that no record can hold */
 #define DEHLBAZIN_UNKNOWN_VERSION 24             /* a settings record has a version that is not known */
 #define DEHLBAZIN_NAME_CONFLICT 25               /* a name above or beneath the row's has a loose value, or would get one */
+#define DEHLBAZIN_RECEIVER_FULL 26               /* a fragment is longer than the room that is left */
 #define DEHLBAZIN_SHORT_BUFFER 33                /* the settings record is longer than the buffer */
 
 /* ---- settings: which names get log lines (docs/SPEC.md, due lines) */
@@ -165,6 +170,13 @@
 #define DEHLBAZIN_EDIT_AT_NAME 23           /* 2 bytes */
 #define DEHLBAZIN_EDIT_AT_MESSAGE 25        /* 2 bytes; 0 with delete */
 
+/* ---- a receiver, which collects an edit list that arrives in fragments: how many bytes it holds, in 2 bytes, big-endian; these bytes;
+ * and zeros. It has room for the longest list, and needs no region before it is closed. A good one is what accepted fragments leave,
+ * and nothing else: a count above DEHLBAZIN_LIST_MOST_BYTES, or another byte than 0 behind what is held, is none. */
+
+#define DEHLBAZIN_RECEIVER_AT_COUNT 0 /* 2 bytes */
+#define DEHLBAZIN_RECEIVER_AT_BYTES 2 /* DEHLBAZIN_LIST_MOST_BYTES of them */
+
 /* ---- a settings record, which a site keeps between runs: its log setting, its usual mode, its committers and its site number.
  * docs/SETTINGS.md has its bytes. */
 
@@ -211,6 +223,10 @@
 #define DEHLBAZIN_READ_ROW_PARENT 11
 #define DEHLBAZIN_READ_ROW_LEAF_PREVIOUS 12
 #define DEHLBAZIN_READ_ROW_FOUND 13
+
+#define DEHLBAZIN_TAKE_FRAGMENT_HELD 0
+
+#define DEHLBAZIN_CLOSE_RECEIVER_ROWS 0
 
 #define DEHLBAZIN_READ_SETTINGS_LOG 0
 #define DEHLBAZIN_READ_SETTINGS_MODE 1
@@ -276,7 +292,7 @@ static inline uint64_t dehlbazin_place(const uint8_t *answer, size_t i)
 extern "C" {
 #endif
 
-/* Below, 'refused' leaves out what every call can return: 1, of the region and of the answer record. */
+/* Below, 'refused' leaves out what every call can return: 1, of the region, of the receiver and of the answer record. */
 
 /* Makes an empty store with a log setting. Whatever the region held is gone, a prepared transaction too.
  * setting: DEHLBAZIN_SETTING_..
@@ -393,6 +409,30 @@ uint32_t dehlbazin_read_line(const uint8_t *region, size_t region_len, uint64_t 
  * did not, as with rows of the log only, a name that has nothing but a packed value is absent here, while dehlbazin_read_name finds
  * it packed. The place stays the same as long as the transaction is prepared. */
 uint32_t dehlbazin_read_row(const uint8_t *region, size_t region_len, uint64_t place, uint8_t *answer, size_t answer_len);
+
+/* ---- the calls of a list that arrives in fragments */
+
+/* Makes a fresh receiver, which holds nothing, whatever the bytes were: their number alone is looked at.
+ * refused: nothing more.
+ * places: none. */
+uint32_t dehlbazin_fresh_receiver(uint8_t *receiver, size_t receiver_len, uint8_t *answer, size_t answer_len);
+
+/* Puts a fragment behind what the receiver holds. Any bytes are a fragment, none and all of a list too: they are judged when the
+ * receiver is closed.
+ * refused: 26 more bytes than there is room for. The receiver stays as it is, and may be closed or take a shorter one.
+ * places: 0 how many bytes are held now. */
+uint32_t dehlbazin_take_fragment(uint8_t *receiver, size_t receiver_len, const uint8_t *fragment, size_t fragment_len,
+                                 uint8_t *answer, size_t answer_len);
+
+/* Prepares a transaction with the list that the receiver holds: answer and region are those of dehlbazin_prepare with the accepted
+ * fragments joined, however they were cut. Bytes that are missing, or stand behind the list, make it malformed: 2, in prepare's order.
+ * A fresh receiver follows, refused or not, so a list that was refused is sent again. Two refusals leave the receiver as it is: 1 of
+ * the receiver itself, and 1 of an answer record of another size. A region that is not good is refused too, and leaves a fresh one.
+ * mode: DEHLBAZIN_MODE_..
+ * refused: as dehlbazin_prepare, with its places and in its order.
+ * places: 0 how many rows, 0 to 160. */
+uint32_t dehlbazin_close_receiver(uint8_t *region, size_t region_len, uint8_t *receiver, size_t receiver_len, uint64_t mode,
+                                  uint8_t *answer, size_t answer_len);
 
 /* ---- the calls of the settings record. Their refusals come in the order in which they stand. */
 

@@ -74,6 +74,8 @@ impl Answer {
 
     pub const NAME_CONFLICT: u32 = 25;
 
+    pub const RECEIVER_FULL: u32 = 26;
+
     pub const SHORT_BUFFER: u32 = 33;
 }
 
@@ -183,6 +185,7 @@ impl Verdict {
             Refusal::MalformedRecord => Verdict::bare(Answer::MALFORMED_RECORD),
             Refusal::UnknownVersion => Verdict::bare(Answer::UNKNOWN_VERSION),
             Refusal::NameConflict(n) => named(Answer::NAME_CONFLICT, n),
+            Refusal::ReceiverFull => Verdict::bare(Answer::RECEIVER_FULL),
             Refusal::ShortBuffer => Verdict::bare(Answer::SHORT_BUFFER),
         }
     }

@@ -11,17 +11,18 @@ use borrow.Author.Tests.{eq-eqb}
 use Rattle.model.specs.declared.WriteReflog.{WriteReflog}
 use Rattle.model.specs.declared.WriteReflog.the-variants.{Disable}
 use Rattle.model.specs.declared.Refusal.{Refusal}
-use Rattle.model.specs.declared.Refusal.the-variants.{BadRegion, Malformed, NotRegistered, ReferenceCycle, TooManyRows, MultipleEdits, PackedTransactionAcquire, LockAcquire, DeleteReferenceMustExist, MustNotExist, MustExist, ReferenceOutOfDate, DeleteMustNotExist, LogFull, WrongState, BadName, NamesFull, WrongLock, BadLoad, NothingThere, MalformedRecord, UnknownVersion, NameConflict, ShortBuffer}
-use Rattle.model.specs.Store.{Store, empty}
+use Rattle.model.specs.declared.Refusal.the-variants.{BadRegion, Malformed, NotRegistered, ReferenceCycle, TooManyRows, MultipleEdits, PackedTransactionAcquire, LockAcquire, DeleteReferenceMustExist, MustNotExist, MustExist, ReferenceOutOfDate, DeleteMustNotExist, LogFull, WrongState, BadName, NamesFull, WrongLock, BadLoad, NothingThere, MalformedRecord, UnknownVersion, NameConflict, ReceiverFull, ShortBuffer}
+use Rattle.model.specs.Store.{Store, Prepared, empty}
 use Rattle.model.specs.Commit.Stop.{noCommitter, usedUp}
 use Rattle.model.specs.Outcome.{Outcome, orRefuse}
 use Rattle.model.specs.Outcome.Outcome.{refuse, pass}
-use Rattle.model.specs.Reply.{Call, Reply, _>>=_}
+use Rattle.model.specs.Reply.{Call, Given, Reply, _>>=_}
 use Rattle.model.specs.Reply.Call.{start, addName, nameBytes, loadLoose, loadPacked, placeLock, liftLock, prepare, commit, rollback, readName, readLine, readRow}
 use Rattle.model.specs.Reply.Reply.{done, stopped, refused}
-use Rattle.model.specs.Reply.Given.{nothing}
+use Rattle.model.specs.Reply.Given.{nothing, number}
 use Rattle.model.specs.Load.{settingOf, started}
-use Rattle.model.specs.Calls.{step}
+use Rattle.model.specs.Calls.{step, rowsPrepared}
+use Rattle.model.specs.Prepare.{rowsFor, held as holds}
 use Rattle.model.specs.Numbers.{Answer, answerOf, refusalAnswer}
 use Rattle.answers.specs.declared.Verdict.{Verdict}
 use Rattle.answers.specs.Answers.{answerBy}
@@ -30,13 +31,14 @@ use Rattle.model.specs.Reached.Reached.{begun, after}
 use Rattle.model.proofs.Kept.{reached-sound}
 use Rattle.model.proofs.Locks.{as-before}
 use Rattle.settings.specs.Format.{Settings, read}
+use Rattle.receiver.specs.Receiver.{held, isReceiver, closing, closed}
 use Rattle.region.specs.Layout.{regionSize}
 use Rattle.region.specs.Region.{image, decode}
 use Rattle.region.proofs.Sized.{length-image}
 use Rattle.region.proofs.Decode.{decoded, decode-image}
-use Rattle.calls.specs.Call.{sized, startFrom, stepOn, replyTo, replyToRecord, regionAfter, Out, outOf, untouched, call, startCall, Did}
-use Rattle.calls.specs.Exports.{Determined, BelowDetermined, PartDetermined, Unchanged, StartUnchanged, GotReached, LocksAsBefore}
-use Rattle.calls.specs.Exports.Got.{begun as got·begun, begunWith as got·begunWith, after as got·after, afterWith as got·afterWith}
+use Rattle.calls.specs.Call.{sized, startFrom, stepOn, replyTo, replyToRecord, replyOr, replyToClosing, regionAfter, Out, outOf, untouched, call, startCall, beside, closeCall, Did}
+use Rattle.calls.specs.Exports.{Determined, BelowDetermined, KeepsDetermined, PartDetermined, Unchanged, StartUnchanged, CloseUnchanged, GotReached, LocksAsBefore}
+use Rattle.calls.specs.Exports.Got.{begun as got·begun, begunWith as got·begunWith, after as got·after, afterWith as got·afterWith, afterClosing as got·afterClosing}
 
 -- ---- determined
 
@@ -53,6 +55,9 @@ one-verdict v v′ e = ap verdict e
 
 pub below-determined : BelowDetermined
 below-determined reply r v v′ r₁ r₂ d e = (one-verdict v v′ (d .answer ∙ sym (e .answer)), d .region ∙ sym (e .region))
+
+pub keeps-determined : KeepsDetermined
+keeps-determined k v v′ b₁ b₂ d e = (one-verdict v v′ (d .answer ∙ sym (e .answer)), d .buffer ∙ sym (e .buffer))
 
 pub part-determined : PartDetermined
 part-determined n r p q d e = d ∙ sym e
@@ -229,6 +234,7 @@ refusal-number NothingThere e = omega arith
 refusal-number MalformedRecord e = omega arith
 refusal-number UnknownVersion e = omega arith
 refusal-number (NameConflict n) e = omega arith
+refusal-number ReceiverFull e = omega arith
 refusal-number ShortBuffer e = omega arith
 
 abbrev Held : List ℕ → Type 0
@@ -254,6 +260,68 @@ starts-with bytes r a n a′ r′ d before =
     new false setting e f = still (λ q. omega arith) f
     new true setting e f = reached-image r′ (empty setting) (begun setting) (only r′ (image (empty setting)) f)
 
+-- ---- closing a receiver
+
+-- of two lent buffers, what holds of the list holds of the first
+first : (r r′ b b′ : List ℕ) → r ∷ b ∷ [] ≡ r′ ∷ b′ ∷ [] → r ≡ r′
+first r r′ b b′ e = cc
+
+-- the record's size decides
+abbrev closedBy : Bool → Reply → List ℕ → List ℕ → List ℕ → Out
+unfolding outOf
+closedBy t reply r b a = cond t (beside (outOf reply r) (closed b)) (untouched a (r ∷ b ∷ []))
+
+-- it comes to a refusal, or to a prepared store
+closing-replies : (P : Reply → Type 0) (b : List ℕ) (mode : ℕ) (r : List ℕ) → ((x : Refusal) → P (refused x))
+    → ((s : Store) (given : Given) → P (done s given)) → P (replyToClosing b mode r)
+unfolding replyToClosing closing replyTo step rowsPrepared
+closing-replies P b mode r f g = go (isReceiver b)
+  where
+    judged : (s : Store) (o : Outcome Prepared) → P (o >>= λ p. done (holds p s) (number (length (p .rows))))
+    judged s (refuse x) = f x
+    judged s (pass p) = g (holds p s) (number (length (p .rows)))
+
+    called : (o : Option Store) → P (stepOn (prepare (held b) mode) o)
+    called none = f BadRegion
+    called (some s) = judged s (rowsFor (held b) mode s)
+
+    go : (t : Bool) → P (replyOr (cond t (pass (prepare (held b) mode)) (refuse BadRegion)) r)
+    go false = f BadRegion
+    go true = called (decode r)
+
+pub close-unchanged : CloseUnchanged
+unfolding closeCall outOf answerOf
+close-unchanged mode r b a n a′ r′ b′ d not-done =
+    closing-replies (λ (reply : Reply). Stays (eqb (length a) 128) reply) b mode r (λ x. same (eqb (length a) 128) x) (λ s given. new (eqb (length a) 128) s given) (d .code) (d .lent)
+  where
+    Stays : Bool → Reply → Type 0
+    Stays t reply = n ≡ closedBy t reply r b a .code → r′ ∷ b′ ∷ [] ≡ closedBy t reply r b a .lent → r′ ≡ r
+
+    same : (t : Bool) (x : Refusal) → Stays t (refused x)
+    same false x e f = first r′ r b′ b f
+    same true x e f = first r′ r b′ (closed b) f
+
+    new : (t : Bool) (s : Store) (given : Given) → Stays t (done s given)
+    new false s given e f = first r′ r b′ b f
+    new true s given e f = absurd (not-done e)
+
+-- what closing calls goes on as any call does
+closes-on : (mode : ℕ) (r b a : List ℕ) (n : ℕ) (a′ r′ b′ : List ℕ) → Held r → Did (closeCall mode r b a) n a′ (r′ ∷ b′ ∷ []) → Held r′
+unfolding closeCall replyToClosing outOf
+closes-on mode r b a n a′ r′ b′ (s, e, reached) d = go (eqb (length a) 128) (closing b mode) (d .lent)
+  where
+    still : (c : List ℕ) → r′ ∷ b′ ∷ [] ≡ r ∷ c ∷ [] → Held r′
+    still c f = (s, ap decode (first r′ r b′ c f) ∙ e, reached)
+
+    go : (t : Bool) (o : Outcome Call) → r′ ∷ b′ ∷ [] ≡ closedBy t (replyOr o r) r b a .lent → Held r′
+    go false o f = still b f
+    go true (refuse x) f = still (closed b) f
+    go true (pass c) f =
+        reached-image r′ (leaves (step c s) s) (after reached c)
+        (first r′ (regionAfter (replyTo c r) r) b′ (closed b) f
+        ∙ ap (λ (reply : Reply). regionAfter reply r) (replies-to c r s e)
+        ∙ left-image (step c s) r s (sym (decoded r s e .1)))
+
 -- ---- any calls
 
 pub got-reached : GotReached
@@ -263,6 +331,7 @@ got-reached r (got·after {r = r₀} g c n a a′ _ d) =
     let h = got-reached r₀ g in goes-on c r₀ a n a′ r (h .0) (h .1) (h .2) d
 got-reached r (got·afterWith {r = r₀} g bytes n a a′ _ d) =
     let held = got-reached r₀ g in starts-with bytes r₀ a n a′ r d (λ _. held)
+got-reached r (got·afterClosing {r = r₀} g mode n b a a′ _ b′ d) = closes-on mode r₀ b a n a′ r b′ (got-reached r₀ g) d
 
 -- ---- the lock calls
 

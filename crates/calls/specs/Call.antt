@@ -1,7 +1,7 @@
 -- What every call does with a region and an answer record, by what the model's step does to a store: one shape for all calls.
 use mathlib.Core.Path.{_≡_}
 use mathlib.Core.Bool.{Bool, true, false, cond}
-use mathlib.Core.List.{List, [], _∷_}
+use mathlib.Core.List.{List, [], _∷_, _++_}
 use mathlib.Core.Option.{Option, none, some}
 use Prim.Native.Nat.{ℕ}
 use lib.ListN.{length, getD}
@@ -17,8 +17,9 @@ use Rattle.model.specs.Reply.Reply.{done, stopped, refused}
 use Rattle.model.specs.Calls.{step}
 use Rattle.model.specs.Outcome.{Outcome}
 use Rattle.model.specs.Outcome.Outcome.{refuse, pass}
-use Rattle.model.specs.Numbers.{answerOf}
+use Rattle.model.specs.Numbers.{Answer, answerOf}
 use Rattle.settings.specs.Format.{Settings, read}
+use Rattle.receiver.specs.Receiver.{closing, closed}
 use Rattle.region.specs.Layout.{regionSize}
 use Rattle.region.specs.Region.{image, decode, nameOffset}
 use Rattle.answers.specs.declared.Verdict.{Verdict}
@@ -70,6 +71,15 @@ startFrom (pass settings) (some s) = step (start (settings .log)) s
 unfoldable pub replyToRecord : List ℕ → List ℕ → Reply
 replyToRecord bytes r = startFrom (read 2 bytes) (sized r)
 
+-- ---- closing a receiver: 1 where it is not good, then as prepare with what it holds
+
+abbrev pub replyOr : Outcome Call → List ℕ → Reply
+replyOr (refuse x) r = refused x
+replyOr (pass c) r = replyTo c r
+
+unfoldable pub replyToClosing : List ℕ → ℕ → List ℕ → Reply
+replyToClosing b mode r = replyOr (closing b mode) r
+
 -- ---- what is left and answered
 
 -- the region that a reply leaves: the image of its store; a refusal leaves the region as it is
@@ -96,15 +106,40 @@ outOf reply r = record {
 abbrev pub untouched : List ℕ → List (List ℕ) → Out
 untouched a lent = record { code = 1; answer = a; lent = lent }
 
+-- a record of 128 bytes lets the call be made
+abbrev pub recorded : Out → List (List ℕ) → List ℕ → Out
+recorded o lent a = cond (eqb (length a) 128) o (untouched a lent)
+
 -- what the caller gets of any reply
 abbrev pub replied : Reply → List ℕ → List ℕ → Out
-replied reply r a = cond (eqb (length a) 128) (outOf reply r) (untouched a (r ∷ []))
+replied reply r a = recorded (outOf reply r) (r ∷ []) a
 
 unfoldable pub call : Call → List ℕ → List ℕ → Out
 call c r a = replied (replyTo c r) r a
 
 unfoldable pub startCall : List ℕ → List ℕ → List ℕ → Out
 startCall bytes r a = replied (replyToRecord bytes r) r a
+
+-- a receiver is lent beside the region, and stands behind it
+abbrev pub beside : Out → List ℕ → Out
+beside o b = record { code = o .code; answer = o .answer; lent = o .lent ++ (b ∷ []) }
+
+unfoldable pub closeCall : ℕ → List ℕ → List ℕ → List ℕ → Out
+closeCall mode r b a = recorded (beside (outOf (replyToClosing b mode r) r) (closed b)) (r ∷ b ∷ []) a
+
+-- ---- a call on one buffer that is no region: its answer, and the buffer as it is left
+
+pub record Kept : Type 0 where
+  pub answer : Answer
+  pub buffer : List ℕ
+
+abbrev pub keptOut : Kept → Out
+keptOut k = record { code = k .answer .number; answer = recordOf (k .answer .places); lent = k .buffer ∷ [] }
+
+abbrev pub keptCall : Kept → List ℕ → List ℕ → Out
+keptCall k b a = recorded (keptOut k) (b ∷ []) a
+
+-- ---- the contract
 
 -- the contract of every exported call: its number, the record and the lent buffers as it leaves them
 pub record Did (o : Out) (n : ℕ) (a : List ℕ) (buffers : List (List ℕ)) : Type 0 where
@@ -114,10 +149,21 @@ pub record Did (o : Out) (n : ℕ) (a : List ℕ) (buffers : List (List ℕ)) : 
 
 -- ---- below the exports
 
--- the contract of the function on plain values below each exported call
+-- the contract of the function on plain values below each exported call on a region
 pub record Replied (v : Verdict) (r r′ : List ℕ) (reply : Reply) : Type 0 where
   pub answer : answerBy v ≡ answerOf nameOffset reply
   pub region : r′ ≡ regionAfter reply r
+
+-- and below closing, with the receiver too
+pub record Closed (v : Verdict) (r r′ b b′ : List ℕ) (mode : ℕ) : Type 0 where
+  pub answer : answerBy v ≡ answerOf nameOffset (replyToClosing b mode r)
+  pub region : r′ ≡ regionAfter (replyToClosing b mode r) r
+  pub receiver : b′ ≡ closed b
+
+-- and below each of those on another buffer
+pub record Keeps (v : Verdict) (b′ : List ℕ) (k : Kept) : Type 0 where
+  pub answer : answerBy v ≡ k .answer
+  pub buffer : b′ ≡ k .buffer
 
 -- ---- the bytes of a name, handed back as a part of the region: what stands at the offset and length that name_bytes answers. A
 -- refusal answers length 0

@@ -1,5 +1,5 @@
--- What is proved of every call that keeps the contract `Did (call c r a)`, whatever the call, and of start with a settings record.
--- Every exported call on a region has one of the two. The proofs stand in proofs/Exports.antt.
+-- What is proved of every call that keeps the contract `Did (call c r a)`, whatever the call, of start with a settings record and of
+-- closing a receiver. Every exported call on a region has one of the three. The proofs stand in proofs/Exports.antt.
 use mathlib.Core.Path.{_≡_}
 use mathlib.Core.List.{List, [], _∷_}
 use mathlib.Core.Option.{some}
@@ -12,7 +12,7 @@ use Rattle.model.specs.Reached.{Reached}
 use Rattle.model.specs.Locks.{placing, lifting, didBefore}
 use Rattle.region.specs.Region.{decode}
 use Rattle.answers.specs.declared.Verdict.{Verdict}
-use Rattle.calls.specs.Call.{Out, outOf, call, startCall, Did, Replied, namePart}
+use Rattle.calls.specs.Call.{Out, outOf, call, startCall, closeCall, Kept, Did, Replied, Keeps, namePart}
 
 -- ---- determined: two results that satisfy the contract of an exported call are equal, whatever it says is to come out
 
@@ -30,6 +30,10 @@ BelowDetermined =
     → Replied v r r₁ reply
     → Replied v′ r r₂ reply
     → (v ≡ v′) × (r₁ ≡ r₂)
+
+abbrev pub KeepsDetermined : Type 0
+KeepsDetermined =
+    (k : Kept) (v v′ : Verdict) (b₁ b₂ : List ℕ) → Keeps v b₁ k → Keeps v′ b₂ k → (v ≡ v′) × (b₁ ≡ b₂)
 
 -- the contract of the function that returns the part of a name
 abbrev pub PartDetermined : Type 0
@@ -53,7 +57,15 @@ StartUnchanged =
     → (n ≡ 0 → ⊥)
     → lent ≡ r ∷ []
 
--- ---- what is got from any bytes by start, with a setting or with a record, and then any calls
+-- of a refused closing the region is as it was. What becomes of the receiver stands in crates/receiving
+abbrev pub CloseUnchanged : Type 0
+CloseUnchanged =
+    (mode : ℕ) (r b a : List ℕ) (n : ℕ) (a′ r′ b′ : List ℕ)
+    → Did (closeCall mode r b a) n a′ (r′ ∷ b′ ∷ [])
+    → (n ≡ 0 → ⊥)
+    → r′ ≡ r
+
+-- ---- what is got from any bytes by start, with a setting or with a record, and then any calls, closings among them
 
 -- refused calls and records of any size included
 pub data Got : List ℕ → Type 0 where
@@ -61,6 +73,7 @@ pub data Got : List ℕ → Type 0 where
   begunWith : (bytes r a a′ r′ : List ℕ) → Did (startCall bytes r a) 0 a′ (r′ ∷ []) → Got r′
   after : {r : List ℕ} → Got r → (c : Call) (n : ℕ) (a a′ r′ : List ℕ) → Did (call c r a) n a′ (r′ ∷ []) → Got r′
   afterWith : {r : List ℕ} → Got r → (bytes : List ℕ) (n : ℕ) (a a′ r′ : List ℕ) → Did (startCall bytes r a) n a′ (r′ ∷ []) → Got r′
+  afterClosing : {r : List ℕ} → Got r → (mode : ℕ) (n : ℕ) (b a a′ r′ b′ : List ℕ) → Did (closeCall mode r b a) n a′ (r′ ∷ b′ ∷ []) → Got r′
 
 -- decodes to a reached store
 abbrev pub GotReached : Type 0

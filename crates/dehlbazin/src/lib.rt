@@ -4,9 +4,11 @@ ghost use mathlib.Core.List.{[], _∷_};
 ghost use Rattle.model.specs.Reply.Call.{start, addName, nameBytes, loadLoose, loadPacked, placeLock, liftLock};
 ghost use Rattle.model.specs.Reply.Call.{prepare, commit, rollback, readName, readLine, readRow};
 ghost use Rattle.settings.specs.Lent.{settingsGiven, committersGiven};
-ghost use Rattle.calls.specs.Call.{call, startCall, Did};
+ghost use Rattle.calls.specs.Call.{call, startCall, closeCall, Did};
 ghost use Rattle.records.specs.Record.{recordCall};
 ghost use Rattle.records.specs.Record.RecordCall.{readSettings, readCommitter, writeSettings};
+ghost use Rattle.receiving.specs.Fragments.{receiverCall};
+ghost use Rattle.receiving.specs.Fragments.ReceiverCall.{freshReceiver, takeFragment};
 use answers::Answer;
 
 // Makes an empty store, whatever the region held.
@@ -277,5 +279,52 @@ pub extern "C" fn dehlbazin_write_settings(
         lengths,
         names,
     );
+    answers::finish(answer, verdict)
+}
+
+// ---- a list of edits in fragments: a receiver collects them, with no region, and closing gives them to prepare
+
+// Makes a receiver that holds nothing, whatever its bytes were.
+#[no_mangle]
+pub extern "C" fn dehlbazin_fresh_receiver(receiver: &mut [u8], answer: &mut [u8]) -> u32
+    ensures { λ r. ⌜ Did (receiverCall freshReceiver (now (receiver .entry)) (now (answer .entry))) r (now (answer .exit)) (now (receiver .exit) ∷ []) ⌝ }
+{
+    if answer.len() != Answer::SIZE {
+        return Answer::BAD_REGION;
+    }
+    let verdict = receiving::fresh_receiver(receiver);
+    answers::finish(answer, verdict)
+}
+
+// Takes a fragment of any length: how many bytes are held now.
+#[no_mangle]
+pub extern "C" fn dehlbazin_take_fragment(
+    receiver: &mut [u8],
+    fragment: &[u8],
+    answer: &mut [u8],
+) -> u32
+    ensures { λ r. ⌜ Did (receiverCall (takeFragment (now (fragment .entry))) (now (receiver .entry)) (now (answer .entry))) r (now (answer .exit)) (now (receiver .exit) ∷ []) ⌝ }
+{
+    if answer.len() != Answer::SIZE {
+        return Answer::BAD_REGION;
+    }
+    let verdict = receiving::take_fragment(receiver, fragment);
+    answers::finish(answer, verdict)
+}
+
+// Prepares what a receiver holds, as prepare does, and leaves a fresh one.
+#[no_mangle]
+pub extern "C" fn dehlbazin_close_receiver(
+    region: &mut [u8],
+    receiver: &mut [u8],
+    mode: u64,
+    answer: &mut [u8],
+) -> u32
+    ensures { λ r. ⌜ Did (closeCall mode (now (region .entry)) (now (receiver .entry)) (now (answer .entry))) r (now (answer .exit)) (now (region .exit) ∷ now (receiver .exit) ∷ []) ⌝ }
+{
+    if answer.len() != Answer::SIZE {
+        return Answer::BAD_REGION;
+    }
+    let verdict = receiving::close_receiver(region, receiver, mode);
     answers::finish(answer, verdict)
 }

@@ -15,7 +15,7 @@ use Rattle.transaction.specs.declared.Edit.{Edit}
 use Rattle.transaction.specs.Change.{newValue, previousValue, expectedOf, logOf, forceOf, messageOf}
 use Rattle.transaction.specs.Fields.{changeByte, refLogByte, previousByte}
 use Rattle.model.specs.declared.Refusal.{Refusal}
-use Rattle.model.specs.declared.Refusal.the-variants.{BadRegion, Malformed, NotRegistered, ReferenceCycle, TooManyRows, MultipleEdits, PackedTransactionAcquire, LockAcquire, DeleteReferenceMustExist, MustNotExist, MustExist, ReferenceOutOfDate, DeleteMustNotExist, LogFull, WrongState, BadName, NamesFull, WrongLock, BadLoad, NothingThere, MalformedRecord, UnknownVersion, NameConflict, ShortBuffer}
+use Rattle.model.specs.declared.Refusal.the-variants.{BadRegion, Malformed, NotRegistered, ReferenceCycle, TooManyRows, MultipleEdits, PackedTransactionAcquire, LockAcquire, DeleteReferenceMustExist, MustNotExist, MustExist, ReferenceOutOfDate, DeleteMustNotExist, LogFull, WrongState, BadName, NamesFull, WrongLock, BadLoad, NothingThere, MalformedRecord, UnknownVersion, NameConflict, ReceiverFull, ShortBuffer}
 use Rattle.model.specs.Store.{Store, entryAt}
 use Rattle.model.specs.Rows.{nameIn, changeIn}
 use Rattle.model.specs.Commit.{Stop}
@@ -70,6 +70,7 @@ refusalAnswer NothingThere = answer 22 []
 refusalAnswer MalformedRecord = answer 23 []
 refusalAnswer UnknownVersion = answer 24 []
 refusalAnswer (NameConflict n) = answer 25 (n .0 ∷ [])
+refusalAnswer ReceiverFull = answer 26 []
 refusalAnswer ShortBuffer = answer 33 []
 
 abbrev pub stopNumber : Stop → ℕ

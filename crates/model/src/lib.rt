@@ -99,6 +99,7 @@ pub enum Refusal {
     MalformedRecord,
     UnknownVersion,
     NameConflict(NameNumber),
+    ReceiverFull,
     ShortBuffer,
 }
 

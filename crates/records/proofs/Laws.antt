@@ -25,7 +25,8 @@ use Rattle.scribe.specs.declared.Writing.the-variants as writing
 use Rattle.scribe.specs.Writing.{lengthIn, writingOutcome, Wrote}
 use Rattle.answers.specs.declared.Verdict.{Verdict}
 use Rattle.answers.specs.Answers.{answerBy}
-use Rattle.records.specs.Record.{settingsAnswer, committerAnswer, writeAnswer, kept, Keeps, stretch, committerPart}
+use Rattle.calls.specs.Call.{Keeps}
+use Rattle.records.specs.Record.{settingsAnswer, committerAnswer, writeAnswer, kept, stretch, committerPart}
 use Rattle.records.specs.Record.RecordCall.{readSettings, readCommitter, writeSettings}
 
 -- ---- reading settings

@@ -16,11 +16,11 @@ use Rattle.settings.specs.Format.{Settings, read}
 use Rattle.settings.specs.Lent.{committerAt, nameAt, writeGiven, fitted, afterwards}
 use Rattle.settings.proofs.Stated.{name-stands}
 use Rattle.answers.specs.Answers.{recordOf}
-use Rattle.calls.specs.Call.{Out, untouched, Did}
-use Rattle.calls.proofs.Exports.{one-verdict, refusal-number, only}
-use Rattle.records.specs.Record.{RecordCall, Kept, committerAnswer, writeAnswer, kept, keptOut, recordCall, Keeps, stretch, committerPart}
+use Rattle.calls.specs.Call.{Out, untouched, Did, Kept, keptOut}
+use Rattle.calls.proofs.Exports.{refusal-number, only}
+use Rattle.records.specs.Record.{RecordCall, committerAnswer, writeAnswer, kept, recordCall, stretch, committerPart}
 use Rattle.records.specs.Record.RecordCall.{readSettings, readCommitter, writeSettings}
-use Rattle.records.specs.Stated.{RecordUnchanged, WriteKeeps, KeepsDetermined, PartIsName}
+use Rattle.records.specs.Stated.{RecordUnchanged, WriteKeeps, PartIsName}
 
 -- the answer record's size decides
 abbrev chosen : Bool → Kept → List ℕ → List ℕ → Out
@@ -72,9 +72,6 @@ write-keeps v given b a a′ b′ d = size (eqb (length a) 128) (d .code) (d .an
         → b′ ∷ [] ≡ chosen t (wrote b (fitted b o)) b a .lent → Left
     size false e f g = absurd (omega arith)
     size true e f g = go o refl e f g
-
-pub keeps-determined : KeepsDetermined
-keeps-determined k v v′ b₁ b₂ d e = (one-verdict v v′ (d .answer ∙ sym (e .answer)), d .buffer ∙ sym (e .buffer))
 
 pub part-is-name : PartIsName
 unfolding committerPart kept

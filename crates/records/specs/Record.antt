@@ -1,12 +1,11 @@
 -- What the calls on a settings record do with it and with the answer record. No region is lent to them: the one buffer is the record
 -- that is read, or the buffer that is written.
-use mathlib.Core.Path.{_≡_}
 use mathlib.Core.Bool.{cond}
 use mathlib.Core.List.{List, [], _∷_}
 use mathlib.Core.Option.{Option}
 use Prim.Native.Nat.{ℕ}
 use lib.ListN.{length, getD}
-use lib.Dec.{eqb, ltb}
+use lib.Dec.{ltb}
 use Rattle.word.specs.Be.{cut}
 use Rattle.model.specs.declared.Refusal.the-variants.{NothingThere}
 use Rattle.model.specs.Outcome.{Outcome}
@@ -14,9 +13,7 @@ use Rattle.model.specs.Outcome.Outcome.{refuse, pass}
 use Rattle.model.specs.Numbers.{Answer, answer, refusalAnswer}
 use Rattle.settings.specs.Format.{Settings, read}
 use Rattle.settings.specs.Lent.{committerAt, nameAt, writeGiven, fitted, afterwards}
-use Rattle.answers.specs.declared.Verdict.{Verdict}
-use Rattle.answers.specs.Answers.{recordOf, answerBy}
-use Rattle.calls.specs.Call.{Out, untouched}
+use Rattle.calls.specs.Call.{Out, Kept, keptCall}
 
 -- read: the version that the reader knows, and a committer's place; write: the version, and the settings given, if any are
 pub data RecordCall : Type 0 where
@@ -46,10 +43,6 @@ writeAnswer (pass r) = answer 0 (length r ∷ [])
 
 -- ---- the call: its answer, and the buffer as it is left
 
-pub record Kept : Type 0 where
-  pub answer : Answer
-  pub buffer : List ℕ
-
 unfoldable pub kept : RecordCall → List ℕ → Kept
 kept (readSettings known) b = record { answer = settingsAnswer (read known b); buffer = b }
 kept (readCommitter known i) b = record { answer = committerAnswer i (read known b); buffer = b }
@@ -58,19 +51,10 @@ kept (writeSettings v given) b = record {
   buffer = afterwards b (fitted b (writeGiven v given));
 }
 
--- with an answer record of another size: 1, and nothing is written anywhere
-abbrev pub keptOut : Kept → Out
-keptOut k = record { code = k .answer .number; answer = recordOf (k .answer .places); lent = k .buffer ∷ [] }
-
 unfoldable pub recordCall : RecordCall → List ℕ → List ℕ → Out
-recordCall c b a = cond (eqb (length a) 128) (keptOut (kept c b)) (untouched a (b ∷ []))
+recordCall c b a = keptCall (kept c b) b a
 
 -- ---- below the exports
-
--- the contract of the function on plain values below each exported call
-pub record Keeps (v : Verdict) (b′ : List ℕ) (k : Kept) : Type 0 where
-  pub answer : answerBy v ≡ k .answer
-  pub buffer : b′ ≡ k .buffer
 
 -- the bytes of a committer's name, handed back as a part of the record: what stands at the offset and length that read_committer answers.
 -- A refusal answers length 0

@@ -6,13 +6,12 @@ use mathlib.Core.Option.{Option, some}
 use Prim.Native.Nat.{ℕ, _<_}
 use lib.ListN.{length, drop, getD}
 use Rattle.model.specs.Outcome.Outcome.{pass}
-use Rattle.answers.specs.declared.Verdict.{Verdict}
 use Rattle.answers.specs.Answers.{recordOf}
 use Rattle.model.specs.Numbers.{answer}
 use Rattle.settings.specs.Format.{Settings, read}
 use Rattle.settings.specs.Lent.{writeGiven, committerAt}
 use Rattle.calls.specs.Call.{Did}
-use Rattle.records.specs.Record.{RecordCall, Kept, recordCall, Keeps, committerPart}
+use Rattle.records.specs.Record.{RecordCall, recordCall, committerPart}
 use Rattle.records.specs.Record.RecordCall.{writeSettings}
 
 -- A refusal changes no byte of the buffer.
@@ -32,11 +31,6 @@ WriteKeeps =
     × (writeGiven v given ≡ pass r)
     × (b′ ≡ r ++ drop (length r) b)
     × (a′ ≡ recordOf (answer 0 (length r ∷ []) .places))
-
--- Two results of the functions below the exports are equal, and so are two parts.
-abbrev pub KeepsDetermined : Type 0
-KeepsDetermined =
-    (k : Kept) (v v′ : Verdict) (b₁ b₂ : List ℕ) → Keeps v b₁ k → Keeps v′ b₂ k → (v ≡ v′) × (b₁ ≡ b₂)
 
 -- The part of a committer that is there is its name.
 abbrev pub PartIsName : Type 0

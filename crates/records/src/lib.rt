@@ -1,7 +1,8 @@
 // The calls on a settings record, on plain values: each judges a record or a buffer and gives a verdict.
 ghost use mathlib.Core.Path.{_≡_};
 ghost use Rattle.settings.specs.Lent.{settingsGiven, committersGiven};
-ghost use Rattle.records.specs.Record.{kept, Keeps, committerPart};
+ghost use Rattle.calls.specs.Call.{Keeps};
+ghost use Rattle.records.specs.Record.{kept, committerPart};
 ghost use Rattle.records.specs.Record.RecordCall.{readSettings, readCommitter, writeSettings};
 use answers::Answer;
 use answers::Verdict;

@@ -1,10 +1,10 @@
 use borrow.Author.Needs.{needs}
-use Rattle.dehlbazin.proofs.Laws.{small-kept, finished-kept}
+use Rattle.dehlbazin.proofs.Laws.{small-settings, finished-settings}
 use Rattle.dehlbazin.proofs.dehlbazin_read_committer.Statement.{statement}
 use Rattle.dehlbazin.proofs.dehlbazin_read_committer.Tie as tie
 
 returns : tie.Need-returns
-returns c = search small-kept
+returns c = search small-settings
 
 read-committer-requires : tie.Need-read-committer-requires
 read-committer-requires c κs = search needs
@@ -16,7 +16,7 @@ same-length : tie.Need-same-length
 same-length c = search needs
 
 returns-2 : tie.Need-returns-2
-returns-2 c = search finished-kept
+returns-2 c = search finished-settings
 
 pub dehlbazin-read-committer-spec : {M : Type 1} → statement M
 dehlbazin-read-committer-spec =
