@@ -7,19 +7,20 @@
 // which throws Refused where there is no value. (Words are std::strings, whose memory can run out.) A commit that stopped on
 // its way is no refusal: it is an Outcome, with the number of writes that were made.
 //
-// A Store keeps no copy of anything: each call reads the region, and tests it whole first.
+// A Store keeps no copy of anything: each call reads the region, and tests it whole first. So does a Receiver with its bytes.
 //
 // What the compiler or this header sees to, beyond what dehlbazin.h says:
 //   - the number of a name and the number of an object are two types, and neither is taken for the other. The packed table, which
 //     has no number, is a type of its own, so that no lock is placed on it by mistake;
-//   - what is lent to a call never overlaps: the bytes of a name, and of a settings record that a store is started with, are copied
-//     before they are passed on, and lists and answers are objects of their own;
+//   - what is lent to a call never overlaps: the bytes of a name, of a fragment, and of a settings record that a store is started
+//     with, are copied before they are passed on, and lists and answers are objects of their own;
 //   - the number of a name is tested before it is put into the 2 bytes that an edit has for it.
 // What the caller still must see to:
 //   - that the region lives as long as the Store or View over it, and the Store as long as it is used; and so with the bytes of a
-//     settings record and the SettingsView over them;
-//   - that the buffer that Settings are written into lies apart from them;
-//   - that one region has one Store at a time, and that calls on it come one after the other.
+//     receiver and the Receiver over them, and with those of a settings record and the SettingsView over them;
+//   - that the buffer that Settings are written into lies apart from them, and a receiver's bytes apart from the region that it is
+//     closed on;
+//   - that one region has one Store at a time, a receiver's bytes one Receiver, and that calls on each come one after the other.
 #ifndef DEHLBAZIN_HPP
 #define DEHLBAZIN_HPP
 
@@ -84,6 +85,9 @@ inline constexpr Allowance every_write{UINT64_MAX};
 
 // A region of the right size. Bytes from elsewhere, as mapped from a file, are passed as a pointer and a size.
 using Region = std::array<uint8_t, DEHLBAZIN_REGION_SIZE>;
+
+// The bytes of a receiver, of the right size. Bytes from elsewhere, as from shared memory, are passed as a pointer and a size.
+using ReceiverBytes = std::array<uint8_t, DEHLBAZIN_RECEIVER_SIZE>;
 
 enum class Setting : uint64_t {
     never = DEHLBAZIN_SETTING_NEVER,
@@ -272,6 +276,7 @@ enum class Reason : uint32_t {
     malformed_record = DEHLBAZIN_MALFORMED_RECORD,
     unknown_version = DEHLBAZIN_UNKNOWN_VERSION,
     name_conflict = DEHLBAZIN_NAME_CONFLICT,
+    receiver_full = DEHLBAZIN_RECEIVER_FULL,
     short_buffer = DEHLBAZIN_SHORT_BUFFER,
 };
 
@@ -307,7 +312,7 @@ struct Word {
 
 inline constexpr Word words[] = {
     {"done", "done"},
-    {"bad_region", "the region holds no good store"},
+    {"bad_region", "the region holds no good store, or the bytes are no good receiver"},
     {"malformed", "the edit list, mode, setting, kind of lock or committer is malformed"},
     {"not_registered", "no name has this number"},
     {"reference_cycle", "links are still followed in a fifth round"},
@@ -332,6 +337,7 @@ inline constexpr Word words[] = {
     {"malformed_record", "the settings record is malformed, or a setting is out of bounds"},
     {"unknown_version", "the settings record has a version that is not known"},
     {"name_conflict", "a name above or beneath it has a loose value, or would get one"},
+    {"receiver_full", "the fragment is longer than the room that is left in the receiver"},
 };
 
 inline constexpr Word short_buffer = {"short_buffer", "the buffer is shorter than the settings record"};
@@ -364,7 +370,7 @@ inline const char *words_of(Place place)
 
 } // namespace detail
 
-// A refusal: its reason, and what comes with it. The region is as it was.
+// A refusal: its reason, and what comes with it. The region is as it was, and so is a receiver, but for one that was closed.
 class Refusal {
 public:
     explicit Refusal(Reason reason) { answer_.number = uint32_t(reason); }
@@ -1164,10 +1170,7 @@ public:
     // Prepares the edits: all of them, or none and the reason why.
     Result<Transaction> prepare(const EditList &edits, Mode mode = Mode::deletions)
     {
-        const detail::Answer answer = change(dehlbazin_prepare, edits.data(), edits.size(), uint64_t(mode));
-        if (answer.number != DEHLBAZIN_DONE)
-            return Refusal(answer);
-        return Transaction(*this, answer.place(DEHLBAZIN_PREPARE_ROWS));
+        return prepared(change(dehlbazin_prepare, edits.data(), edits.size(), uint64_t(mode)));
     }
 
     // Ends what is prepared, whoever prepared it: as after open. Where there is a Transaction of it, that one is over.
@@ -1191,6 +1194,7 @@ public:
 
 private:
     friend class Transaction;
+    friend class Receiver;
     static constexpr size_t MOST_NAME_BYTES = 64;
 
     Store(uint8_t *region, size_t size) : View(region, size), bytes_(region) {}
@@ -1198,6 +1202,15 @@ private:
     template <typename Entry, typename... Arguments> detail::Answer change(Entry entry, Arguments... arguments)
     {
         return detail::ask(entry, bytes_, size_, arguments...);
+    }
+
+    // What was prepared, by a list or by a receiver that was closed: both answer in the same places.
+    Result<Transaction> prepared(const detail::Answer &answer)
+    {
+        static_assert(DEHLBAZIN_PREPARE_ROWS == DEHLBAZIN_CLOSE_RECEIVER_ROWS);
+        if (answer.number != DEHLBAZIN_DONE)
+            return Refusal(answer);
+        return Transaction(*this, answer.place(DEHLBAZIN_PREPARE_ROWS));
     }
 
     void transaction_over() noexcept
@@ -1260,6 +1273,99 @@ inline Result<uint64_t> Transaction::rollback()
         return uint64_t(0);
     return store_->rollback();
 }
+
+// ---- a list that arrives in fragments
+
+// Bytes that are lent for as long as the receiver lives, and in which an edit list is collected: its bytes, EditList's data() and
+// size(), cut anywhere. There is room for the longest list, 868 bytes.
+class Receiver {
+public:
+    // Makes a fresh one, which holds nothing, whatever the bytes were. Refused with 1 for a wrong size.
+    static Result<Receiver> fresh(ReceiverBytes &bytes) { return fresh(bytes.data(), bytes.size()); }
+    static Result<Receiver> fresh(uint8_t *bytes, size_t size)
+    {
+        Receiver receiver(bytes, size);
+        const Result<Done> made = receiver.make_fresh();
+        return made ? Result<Receiver>(std::move(receiver)) : Result<Receiver>(*made.refusal());
+    }
+
+    // Takes up the one that stands there, with what it holds. Refused with 1 where the size is wrong, or the bytes are no good
+    // receiver: they are what accepted fragments leave, or none.
+    static Result<Receiver> open(ReceiverBytes &bytes) { return open(bytes.data(), bytes.size()); }
+    static Result<Receiver> open(uint8_t *bytes, size_t size)
+    {
+        Receiver receiver(bytes, size);
+        const Result<size_t> held = receiver.held();
+        return held ? Result<Receiver>(std::move(receiver)) : Result<Receiver>(*held.refusal());
+    }
+
+    // The other is left with no bytes, which every call refuses with 1.
+    Receiver(Receiver &&other) noexcept { take_over(other); }
+    Receiver &operator=(Receiver &&other) noexcept
+    {
+        if (this != &other)
+            take_over(other);
+        return *this;
+    }
+
+    // Drops what it holds, good or not.
+    Result<Done> make_fresh() { return detail::given(change(dehlbazin_fresh_receiver)); }
+
+    // Puts a fragment behind what is held, and gives how many bytes are held now. Any bytes are one, none and a whole list too:
+    // they are judged when the receiver is closed. Refused with 26 where there is no room for all of it, and the receiver stays as
+    // it is. The bytes may be anywhere, in the receiver too: they are copied. There is room for 868, so that of more no more than
+    // 869 are needed to be refused.
+    Result<size_t> take(const uint8_t *fragment, size_t size)
+    {
+        std::array<uint8_t, DEHLBAZIN_LIST_MOST_BYTES + 1> copy;
+        const size_t length = !fragment ? 0 : size < copy.size() ? size : copy.size();
+        if (length > 0)
+            std::memcpy(copy.data(), fragment, length);
+        return held_by(change(dehlbazin_take_fragment, static_cast<const uint8_t *>(copy.data()), length));
+    }
+    Result<size_t> take(std::string_view fragment)
+    {
+        return take(reinterpret_cast<const uint8_t *>(fragment.data()), fragment.size());
+    }
+    // Nothing that would end at its first zero: a list has some.
+    Result<size_t> take(const char *) = delete;
+
+    // How many bytes are held: what an empty fragment is answered.
+    Result<size_t> held() const
+    {
+        return held_by(detail::ask(dehlbazin_take_fragment, bytes_, size_, static_cast<const uint8_t *>(nullptr), size_t(0)));
+    }
+
+    // Prepares the list that is held, and gives what the store's prepare gives: a transaction, or the reason why not. Bytes that
+    // are missing, or stand behind the list, make it malformed: 2. Either way the receiver is fresh then, so that a list that was
+    // refused is sent again. Only a receiver that is not good stays as it is: 1.
+    Result<Transaction> close(Store &store, Mode mode = Mode::deletions)
+    {
+        return store.prepared(store.change(dehlbazin_close_receiver, bytes_, size_, uint64_t(mode)));
+    }
+
+private:
+    // Null is no receiver, whatever size is said to be there.
+    Receiver(uint8_t *bytes, size_t size) : bytes_(bytes), size_(bytes ? size : 0) {}
+
+    template <typename Entry, typename... Arguments> detail::Answer change(Entry entry, Arguments... arguments)
+    {
+        return detail::ask(entry, bytes_, size_, arguments...);
+    }
+    static Result<size_t> held_by(const detail::Answer &answer)
+    {
+        return detail::given(
+            answer, [](const detail::Answer &given) { return size_t(given.place(DEHLBAZIN_TAKE_FRAGMENT_HELD)); });
+    }
+    void take_over(Receiver &other) noexcept
+    {
+        bytes_ = std::exchange(other.bytes_, nullptr);
+        size_ = std::exchange(other.size_, size_t(0));
+    }
+
+    uint8_t *bytes_;
+    size_t size_;
+};
 
 // ---- in words
 

@@ -1,5 +1,5 @@
-// The linker puts these in the place of the calls that take bytes beside the region or the buffer (--wrap). What is lent must lie
-// apart, which no call can test, and what came of it where it did not need not be seen.
+// The linker puts these in the place of the calls that take bytes beside the region, the buffer or the receiver (--wrap). What is
+// lent must lie apart, which no call can test, and what came of it where it did not need not be seen.
 #include "check.h"
 #include "dehlbazin.h"
 
@@ -14,7 +14,7 @@ static bool apart(const uint8_t *x, size_t x_size, const uint8_t *y, size_t y_si
 static void all_apart(const uint8_t *region, size_t region_len, const uint8_t *bytes, size_t len, const uint8_t *answer,
                       size_t size)
 {
-    check(apart(region, region_len, bytes, len), "a name, list or record apart from the region or buffer");
+    check(apart(region, region_len, bytes, len), "a name, list, record, fragment or receiver apart from the region or buffer");
     check(apart(region, region_len, answer, size) && apart(bytes, len, answer, size), "a record apart from both");
 }
 
@@ -23,6 +23,8 @@ decltype(dehlbazin_add_name) __real_dehlbazin_add_name, __wrap_dehlbazin_add_nam
 decltype(dehlbazin_prepare) __real_dehlbazin_prepare, __wrap_dehlbazin_prepare;
 decltype(dehlbazin_start_with_settings) __real_dehlbazin_start_with_settings, __wrap_dehlbazin_start_with_settings;
 decltype(dehlbazin_write_settings) __real_dehlbazin_write_settings, __wrap_dehlbazin_write_settings;
+decltype(dehlbazin_take_fragment) __real_dehlbazin_take_fragment, __wrap_dehlbazin_take_fragment;
+decltype(dehlbazin_close_receiver) __real_dehlbazin_close_receiver, __wrap_dehlbazin_close_receiver;
 
 uint32_t __wrap_dehlbazin_add_name(uint8_t *region, size_t region_len, const uint8_t *name, size_t len, uint8_t *answer,
                                    size_t size)
@@ -43,6 +45,20 @@ uint32_t __wrap_dehlbazin_start_with_settings(uint8_t *region, size_t region_len
 {
     all_apart(region, region_len, record, len, answer, size);
     return __real_dehlbazin_start_with_settings(region, region_len, record, len, answer, size);
+}
+
+uint32_t __wrap_dehlbazin_take_fragment(uint8_t *receiver, size_t receiver_len, const uint8_t *fragment, size_t len,
+                                        uint8_t *answer, size_t size)
+{
+    all_apart(receiver, receiver_len, fragment, len, answer, size);
+    return __real_dehlbazin_take_fragment(receiver, receiver_len, fragment, len, answer, size);
+}
+
+uint32_t __wrap_dehlbazin_close_receiver(uint8_t *region, size_t region_len, uint8_t *receiver, size_t len, uint64_t mode,
+                                         uint8_t *answer, size_t size)
+{
+    all_apart(region, region_len, receiver, len, answer, size);
+    return __real_dehlbazin_close_receiver(region, region_len, receiver, len, mode, answer, size);
 }
 
 uint32_t __wrap_dehlbazin_write_settings(uint8_t *buffer, size_t buffer_len, uint64_t version, uint64_t log, uint64_t mode,

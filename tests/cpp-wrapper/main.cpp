@@ -41,6 +41,7 @@ int main(int count, char **words)
     part("words", test_words);
     part("marked", test_marked);
     part("settings", test_settings);
+    part("receiver", test_receiver);
     part("same", [=] { test_same(calls, seed); });
     return closing() ? 0 : 1;
 }

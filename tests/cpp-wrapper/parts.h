@@ -11,4 +11,5 @@ void test_walks();
 void test_words();
 void test_marked();
 void test_settings();
+void test_receiver();
 void test_same(size_t calls, uint64_t seed);

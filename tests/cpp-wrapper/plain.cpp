@@ -1,5 +1,6 @@
 #include "step.h"
 
+using dehlbazin::ReceiverBytes;
 using dehlbazin::Region;
 
 static void put(std::string &bytes, uint64_t number, int size)
@@ -28,6 +29,16 @@ std::string list_bytes(const std::vector<Fields> &edits)
         put(bytes, edit.message, 2);
     }
     return bytes;
+}
+
+static uint32_t call_receiver(const Step &s, Region &region, ReceiverBytes &receiver, uint8_t *answer, size_t size)
+{
+    const uint8_t *lent = reinterpret_cast<const uint8_t *>(s.bytes.data());
+    if (s.op == Op::fresh_receiver)
+        return dehlbazin_fresh_receiver(receiver.data(), receiver.size(), answer, size);
+    if (s.op == Op::take_fragment)
+        return dehlbazin_take_fragment(receiver.data(), receiver.size(), lent, s.bytes.size(), answer, size);
+    return dehlbazin_close_receiver(region.data(), region.size(), receiver.data(), receiver.size(), s.a, answer, size);
 }
 
 static uint32_t call(const Step &s, uint8_t *r, size_t n, uint8_t *answer, size_t size)
@@ -66,11 +77,13 @@ static uint32_t call(const Step &s, uint8_t *r, size_t n, uint8_t *answer, size_
     }
 }
 
-Reply make_plainly(const Step &step, Region &region)
+Reply make_plainly(const Step &step, Region &region, ReceiverBytes &receiver)
 {
     uint8_t answer[DEHLBAZIN_ANSWER_SIZE];
     Reply reply;
-    reply.number = call(step, region.data(), region.size(), answer, sizeof answer);
+    const bool receives = step.op == Op::fresh_receiver || step.op == Op::take_fragment || step.op == Op::close_receiver;
+    reply.number = receives ? call_receiver(step, region, receiver, answer, sizeof answer)
+                            : call(step, region.data(), region.size(), answer, sizeof answer);
     for (size_t i = 0; i < reply.places.size(); i++)
         reply.places[i] = dehlbazin_place(answer, i);
     return reply;

@@ -22,8 +22,11 @@ enum class Op {
     read_line,
     read_row,
     start_with_settings,
+    fresh_receiver,
+    take_fragment,
+    close_receiver,
 };
-constexpr size_t OPS = size_t(Op::start_with_settings) + 1;
+constexpr size_t OPS = size_t(Op::close_receiver) + 1;
 
 // An edit in numbers. An update has a target, object or link; a delete has neither force nor a message.
 struct Fields {
@@ -37,9 +40,9 @@ struct Fields {
 struct Step {
     Op op;
     uint64_t a = 0, b = 0, c = 0; // the numbers, in the call's order
-    std::string bytes{};          // a name's, or a settings record's
+    std::string bytes{};          // a name's, a settings record's, or a fragment
     std::vector<Fields> edits{};
-    unsigned way = 0; // of a commit or a rollback: through the transaction, or the store, or by letting it go
+    unsigned way = 0; // of a commit or a rollback: through the transaction, or the store, or by letting it go; of a fragment too
 };
 
 struct Reply {
@@ -52,12 +55,16 @@ inline bool operator==(const Reply &x, const Reply &y) { return x.number == y.nu
 std::string list_bytes(const std::vector<Fields> &edits);
 
 // Through dehlbazin.h.
-Reply make_plainly(const Step &step, dehlbazin::Region &region);
+Reply make_plainly(const Step &step, dehlbazin::Region &region, dehlbazin::ReceiverBytes &receiver);
 
 // Through dehlbazin.hpp, with a transaction that is kept from its preparing on. What is given as values is put back into places.
 class Typed {
 public:
-    explicit Typed(dehlbazin::Region &region) : region_(region), store_(dehlbazin::Store::open(region).value()) {}
+    Typed(dehlbazin::Region &region, dehlbazin::ReceiverBytes &receiver)
+        : region_(region), store_(dehlbazin::Store::open(region).value()),
+          receiver_(dehlbazin::Receiver::open(receiver).value())
+    {
+    }
     Reply make(const Step &step);
     bool has_transaction() const { return transaction_ && transaction_->prepared(); }
 
@@ -65,11 +72,14 @@ private:
     Reply load(const Step &step);
     Reply lock(const Step &step);
     Reply prepare(const Step &step);
+    Reply receive(const Step &step);
+    Reply keep(dehlbazin::Result<dehlbazin::Transaction> prepared);
     Reply commit(const Step &step);
     Reply rollback(const Step &step);
     Reply read(const Step &step);
 
     dehlbazin::Region &region_;
     dehlbazin::Store store_;
+    dehlbazin::Receiver receiver_;
     std::optional<dehlbazin::Transaction> transaction_;
 };

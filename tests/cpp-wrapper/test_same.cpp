@@ -1,18 +1,24 @@
-// Random calls, each made through dehlbazin.hpp and through dehlbazin.h, on two regions that stay the same byte for byte.
+// Random calls, each made through dehlbazin.hpp and through dehlbazin.h, on two regions and two receivers that stay the same byte
+// for byte.
 #include "check.h"
 #include "dice.h"
 #include "parts.h"
 #include "step.h"
 #include "tally.h"
 
+#include <algorithm>
 #include <cstdio>
 
+using dehlbazin::ReceiverBytes;
 using dehlbazin::Region;
 
-// What is known of the store, to throw calls that do something: how many names there are, and whether something is prepared.
+// What is known of the store, to throw calls that do something: how many names there are, and whether something is prepared. And of
+// the receiver: the list that is on its way to it, and how much of that was taken.
 struct Known {
     uint64_t names = 0;
     bool prepared = false;
+    std::string list{};
+    size_t taken = 0;
 };
 
 // Mostly below a count; sometimes it, or one that would be below it if it were cut down.
@@ -122,7 +128,26 @@ static Step some_start_with_settings(Dice &dice)
     return step;
 }
 
-// Any call that takes a region, with numbers that are good for the most part.
+// The next piece of the list that is on its way, or bytes that are too many; when all is taken, mostly the closing.
+static Step some_arrival(Dice &dice, const Known &known)
+{
+    const size_t left = known.list.size() - known.taken;
+    if (left == 0 ? !dice.once_in(4) : dice.once_in(12)) {
+        Step step{Op::close_receiver};
+        step.a = dice.once_in(20) ? number_near(dice, 4) : 1 + dice.below(3);
+        return step;
+    }
+    Step step{Op::take_fragment};
+    step.way = unsigned(dice.below(2));
+    const size_t lengths[] = {0, 1, 4, 27, 512, left, left, left};
+    if (dice.once_in(15))
+        step.bytes = std::string(dice.once_in(2) ? 869 : 1 + dice.below(2000), 'x');
+    else
+        step.bytes = known.list.substr(known.taken, dice.one_of(lengths));
+    return step;
+}
+
+// Any call that takes a region or a receiver, with numbers that are good for the most part.
 static Step some_step(Dice &dice, const Known &known)
 {
     Step step{Op(dice.below(OPS))};
@@ -142,6 +167,11 @@ static Step some_step(Dice &dice, const Known &known)
         return some_locking(dice, known, step.op);
     case Op::start_with_settings:
         return some_start_with_settings(dice);
+    case Op::fresh_receiver:
+        return dice.once_in(8) ? step : some_arrival(dice, known);
+    case Op::take_fragment:
+    case Op::close_receiver:
+        return some_arrival(dice, known);
     case Op::prepare:
         return some_prepare(dice, known);
     case Op::commit:
@@ -157,10 +187,14 @@ static Step some_step(Dice &dice, const Known &known)
 }
 
 // Mostly the call that brings a store on its way to a commit.
-static Step next_step(Dice &dice, const Known &known)
+static Step next_step(Dice &dice, Known &known)
 {
+    if (known.list.empty())
+        known.list = list_bytes(some_prepare(dice, known).edits);
     if (dice.once_in(2))
         return some_step(dice, known);
+    if (dice.once_in(3))
+        return some_arrival(dice, known);
     if (known.prepared)
         return dice.once_in(2) ? some_commit(dice) : Step{Op::read_row, number_near(dice, 4)};
     if (dice.once_in(4))
@@ -179,7 +213,13 @@ static void learn(Known &known, const Step &step, const Reply &reply)
         known = {};
     if (step.op == Op::add_name && reply.number == 0 && reply.places[0] == known.names)
         known.names++;
-    if (step.op == Op::prepare)
+    if (step.op == Op::take_fragment && reply.number == 0)
+        known.taken = std::min(known.list.size(), known.taken + step.bytes.size());
+    if (step.op == Op::fresh_receiver || step.op == Op::close_receiver) {
+        known.list.clear();
+        known.taken = 0;
+    }
+    if (step.op == Op::prepare || step.op == Op::close_receiver)
         known.prepared = reply.number == 0 || reply.number == 15;
     if ((step.op == Op::commit && reply.number != 2) || step.op == Op::rollback)
         known.prepared = false;
@@ -192,26 +232,30 @@ static std::string describe(const Step &step, const Reply &typed, const Reply &p
            std::to_string(typed.number) + ", plain " + std::to_string(plain.number);
 }
 
-// Two regions, and what was made on both.
+// Two regions and two receivers, and what was made on both.
 struct Pair {
     Region typed_region{}, plain_region{};
+    ReceiverBytes typed_receiver{}, plain_receiver{};
     Typed typed;
     Known known;
-    Tally numbers, done;
+    Tally numbers, done, closings;
     Tally placed, lifted;          // locks, by the kind of what has them
     Tally name_places, row_places; // where the calls that read found values
 
-    Pair() : typed(started()) {}
+    Pair() : typed(started(), typed_receiver) {}
 
     void make(const Step &step)
     {
         const bool silent = step.op == Op::rollback && step.way % 3 == 0 && typed.has_transaction();
-        const Reply plain = make_plainly(step, plain_region), reply = typed.make(step);
+        const Reply plain = make_plainly(step, plain_region, plain_receiver), reply = typed.make(step);
         if (!silent || plain.number == 0) // a transaction that is let go cannot say that it was refused
             check(reply == plain, describe(step, reply, plain));
         check(typed_region == plain_region, "the same bytes after " + describe(step, reply, plain));
+        check(typed_receiver == plain_receiver, "the same receivers after " + describe(step, reply, plain));
         learn(known, step, plain);
         numbers.given[plain.number]++;
+        if (step.op == Op::close_receiver)
+            closings.add(plain.number);
         last = plain.number;
         if (!refused())
             done.given[size_t(step.op)]++;
@@ -229,6 +273,11 @@ struct Pair {
         typed_region[at] ^= bits;
         plain_region[at] ^= bits;
     }
+    void turn_receiver(size_t at, uint8_t bits)
+    {
+        typed_receiver[at] ^= bits;
+        plain_receiver[at] ^= bits;
+    }
     bool refused() const { return last != 0 && last != 16 && last != 17; }
 
 private:
@@ -242,22 +291,35 @@ private:
     }
 };
 
-// Now and then a bit of both regions is turned over before a call, and back where the call is refused.
+// One bit, once in so many times, else none.
+static uint8_t some_bit(Dice &dice, uint64_t times) { return dice.once_in(times) ? uint8_t(1u << dice.below(8)) : uint8_t(0); }
+
+// Now and then a bit of both regions is turned over before a call, or of both receivers, and back where the call left them as they
+// were.
+static void make_one(Dice &dice, Pair &pair)
+{
+    const size_t at = dice.below(DEHLBAZIN_REGION_SIZE), in_receiver = dice.below(dice.once_in(2) ? DEHLBAZIN_RECEIVER_SIZE : 40);
+    const uint8_t bits = some_bit(dice, 50), receiver_bits = some_bit(dice, 30);
+    pair.turn_over(at, bits);
+    pair.turn_receiver(in_receiver, receiver_bits);
+    const Region region = pair.plain_region;
+    const ReceiverBytes receiver = pair.plain_receiver;
+    pair.make(next_step(dice, pair.known));
+    if (pair.plain_region == region)
+        pair.turn_over(at, bits);
+    if (pair.plain_receiver == receiver)
+        pair.turn_receiver(in_receiver, receiver_bits);
+}
+
 void test_same(size_t calls, uint64_t seed)
 {
     std::printf("same: %zu calls, seed %llu\n", calls, static_cast<unsigned long long>(seed));
     Dice dice(seed);
     Pair pair;
-    for (size_t made = 0; made < calls; made++) {
-        const bool spoilt = dice.once_in(50);
-        const size_t at = dice.below(DEHLBAZIN_REGION_SIZE);
-        const uint8_t bits = spoilt ? uint8_t(1u << dice.below(8)) : uint8_t(0);
-        pair.turn_over(at, bits);
-        pair.make(next_step(dice, pair.known));
-        if (pair.refused())
-            pair.turn_over(at, bits);
-    }
-    pair.numbers.all_met("the calls", {0, 1, 2, 3, 4, 6, 7, 8, 9, 10, 11, 12, 13, 15, 16, 17, 18, 20, 21, 22, 23, 24, 25});
+    for (size_t made = 0; made < calls; made++)
+        make_one(dice, pair);
+    pair.numbers.all_met("the calls", {0, 1, 2, 3, 4, 6, 7, 8, 9, 10, 11, 12, 13, 15, 16, 17, 18, 20, 21, 22, 23, 24, 25, 26});
+    pair.closings.all_met("closings", {0, 1, 2, 3, 4, 6, 7, 8, 9, 10, 11, 12, 15, 25});
     pair.name_places.all_met("the places of names", {1, 2, 3, 4, 5});
     pair.row_places.all_met("the places of rows", {1, 2, 4, 5}); // 3 is too rare to be asked for
     for (uint64_t kind : {DEHLBAZIN_LOCKABLE_NAME, DEHLBAZIN_LOCKABLE_PACKED_TABLE})

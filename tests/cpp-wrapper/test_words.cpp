@@ -65,6 +65,8 @@ static void test_others()
     says(to_string(Refusal(Reason::unknown_version)), "the settings record has a version that is not known");
     says(to_string(Refusal(Reason::short_buffer)), "the buffer is shorter than the settings record");
     says(to_string(Refusal(Reason::nothing_there)), "there is no such log line, row or committer");
+    says(to_string(Refusal(Reason::bad_region)), "the region holds no good store, or the bytes are no good receiver");
+    says(to_string(Refusal(Reason::receiver_full)), "the fragment is longer than the room that is left in the receiver");
     says(to_string(object(9)), "object 9");
     says(to_string(link(aisle)), "a link to name 1");
     says(to_string(link(aisle), site.store), "a link to refs/heads/aisle");
@@ -114,8 +116,8 @@ static void test_names_of_numbers()
         check(std::strlen(detail::word_of(number).says) > 0, name + " has words");
         numbers.insert(number);
     }
-    check(numbers.size() == 27 && numbers.count(25) == 1 && *numbers.rbegin() == 33, "all numbers from 0 to 25, and 33");
-    for (uint32_t number : {26, 32, 34})
+    check(numbers.size() == 28 && numbers.count(26) == 1 && *numbers.rbegin() == 33, "all numbers from 0 to 26, and 33");
+    for (uint32_t number : {27, 32, 34})
         says(Refusal(Reason(number)).reason_name(), "unknown"); // of a later archive
     says(Refusal(Reason::too_many_rows).reason_name(), "too_many_rows");
     says(to_string(Refusal(Reason::too_many_rows)), "the edits come to more than 160 rows");

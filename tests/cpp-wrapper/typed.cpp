@@ -138,11 +138,29 @@ Reply Typed::prepare(const Step &step)
         check(list.add(edit_of(fields)).done(), "an edit is added");
     const std::string bytes(reinterpret_cast<const char *>(list.data()), list.size());
     check(bytes == list_bytes(step.edits), "the list's bytes");
-    Result<Transaction> prepared = store_.prepare(list, Mode(step.a));
+    return keep(store_.prepare(list, Mode(step.a)));
+}
+
+Reply Typed::keep(Result<Transaction> prepared)
+{
     const Reply all = reply_of(prepared, [](const Transaction &transaction) { return Places{transaction.row_count()}; });
     if (prepared)
         transaction_ = std::move(prepared).value();
     return all;
+}
+
+// How many bytes are held is asked for a second time, which changes nothing.
+Reply Typed::receive(const Step &step)
+{
+    if (step.op == Op::fresh_receiver)
+        return reply_of(receiver_.make_fresh());
+    if (step.op == Op::close_receiver)
+        return keep(receiver_.close(store_, Mode(step.a)));
+    const uint8_t *bytes = reinterpret_cast<const uint8_t *>(step.bytes.data());
+    const Result<size_t> held =
+        step.way % 2 == 0 ? receiver_.take(step.bytes) : receiver_.take(bytes, step.bytes.size());
+    check(!held || receiver_.held().value() == *held.get(), "as many are held as were answered");
+    return reply_of(held, [](size_t now) { return Places{now}; });
 }
 
 Reply Typed::commit(const Step &step)
@@ -220,6 +238,10 @@ Reply Typed::make(const Step &step)
         return commit(step);
     case Op::rollback:
         return rollback(step);
+    case Op::fresh_receiver:
+    case Op::take_fragment:
+    case Op::close_receiver:
+        return receive(step);
     default:
         return read(step);
     }

@@ -1,5 +1,5 @@
 /* The header in C: a call, its number and a place of its answer; an edit list, built by the header's constants; a list that is
- * prepared and committed; and settings, written and read. */
+ * prepared and committed; one that arrives in fragments; and settings, written and read. */
 #include "dehlbazin.h"
 
 #include <string.h>
@@ -60,6 +60,23 @@ uint32_t move_from_c(uint8_t *region, size_t region_len, const uint8_t *list, si
         return 99;
     number = dehlbazin_commit(region, region_len, 0x0102, UINT64_MAX, answer, sizeof answer);
     *writes = dehlbazin_place(answer, DEHLBAZIN_COMMIT_WRITES);
+    return number;
+}
+
+/* Collects a list in fragments of 20 bytes, and prepares it. Gives closing's number, or 99 where a fragment is not taken. */
+uint32_t fragments_from_c(uint8_t *region, size_t region_len, const uint8_t *list, size_t list_len, uint64_t *rows)
+{
+    uint8_t receiver[DEHLBAZIN_RECEIVER_SIZE], answer[DEHLBAZIN_ANSWER_SIZE];
+    size_t at;
+    uint32_t number = dehlbazin_fresh_receiver(receiver, sizeof receiver, answer, sizeof answer);
+    for (at = 0; number == DEHLBAZIN_DONE && at < list_len; at += 20)
+        number = dehlbazin_take_fragment(receiver, sizeof receiver, list + at, list_len - at < 20 ? list_len - at : 20, answer,
+                                         sizeof answer);
+    if (number != DEHLBAZIN_DONE || dehlbazin_place(answer, DEHLBAZIN_TAKE_FRAGMENT_HELD) != list_len)
+        return 99;
+    number = dehlbazin_close_receiver(region, region_len, receiver, sizeof receiver, DEHLBAZIN_MODE_DELETIONS, answer,
+                                      sizeof answer);
+    *rows = dehlbazin_place(answer, DEHLBAZIN_CLOSE_RECEIVER_ROWS);
     return number;
 }
 

@@ -66,6 +66,20 @@ Bytes encode(const Store &store)
     return region;
 }
 
+std::vector<size_t> bits_in_use(const Store &store)
+{
+    const size_t names = store.entries.size();
+    const std::pair<Table, size_t> tables[] = {
+        {{0, NAMES.at, 1}, 1}, {NAMES, names}, {LOOSE, names}, {PACKED, names}, {LOCKS, names}, {ROWS, store.rows.size()},
+        {LINES, store.lines.size()},
+    };
+    std::vector<size_t> bits;
+    for (const auto &[table, used] : tables)
+        for (size_t bit = 8 * table.slot(0); bit < 8 * table.slot(used); bit++)
+            bits.push_back(bit);
+    return bits;
+}
+
 // ---- reading
 
 static Row read_row(Eye eye)

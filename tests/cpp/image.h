@@ -42,6 +42,9 @@ constexpr size_t name_offset(size_t n) { return NAMES.slot(n) + 1; }
 // The bytes of a store, whether it is good or not. It has no more names, rows and lines than fit.
 Bytes encode(const Store &store);
 
+// The bits of the header and of the slots in use.
+std::vector<size_t> bits_in_use(const Store &store);
+
 // The store of a good region.
 std::optional<Store> decode(const uint8_t *region, size_t size);
 inline std::optional<Store> decode(const Bytes &region) { return decode(region.data(), region.size()); }

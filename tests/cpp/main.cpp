@@ -8,8 +8,43 @@
 #include <cstdio>
 #include <cstdlib>
 #include <functional>
+#include <utility>
 
 static const unsigned long SEQUENCES = 20000, SEED = 1;
+
+// The parts that need to be told nothing, in their order.
+static const std::pair<const char *, void (*)()> PARTS[] = {
+    {"header", test_header},
+    {"sizes", test_sizes},
+    {"names", test_names},
+    {"values", test_values},
+    {"locks", test_locks},
+    {"log", test_log},
+    {"prepared", test_prepared},
+    {"rules", test_rules},
+    {"prepare_list", test_prepare_list},
+    {"prepare_splits", test_prepare_splits},
+    {"prepare_turns", test_prepare_turns},
+    {"prepare_kept", test_prepare_kept},
+    {"prepare_room", test_prepare_room},
+    {"places", test_places},
+    {"beneath", test_beneath},
+    {"beneath_regions", test_beneath_regions},
+    {"commit_writes", test_commit_writes},
+    {"commit_lines", test_commit_lines},
+    {"commit_stops", test_commit_stops},
+    {"commit_everywhere", test_commit_everywhere},
+    {"marked", test_marked},
+    {"settings", test_settings},
+    {"settings_changed", test_settings_changed},
+    {"settings_random", test_settings_random},
+    {"receiver", test_receiver},
+    {"receiver_sizes", test_receiver_sizes},
+    {"receiver_closed", test_receiver_closed},
+    {"receiver_flips", test_receiver_flips},
+    {"fragments", test_fragments},
+    {"random", test_random},
+};
 
 static void part(const char *name, const std::function<void()> &test)
 {
@@ -31,31 +66,8 @@ int main(int count, char **words)
                      words[0]);
         return 2;
     }
-    part("header", test_header);
-    part("sizes", test_sizes);
-    part("names", test_names);
-    part("values", test_values);
-    part("locks", test_locks);
-    part("log", test_log);
-    part("prepared", test_prepared);
-    part("rules", test_rules);
-    part("prepare_list", test_prepare_list);
-    part("prepare_splits", test_prepare_splits);
-    part("prepare_turns", test_prepare_turns);
-    part("prepare_kept", test_prepare_kept);
-    part("prepare_room", test_prepare_room);
-    part("places", test_places);
-    part("beneath", test_beneath);
-    part("beneath_regions", test_beneath_regions);
-    part("commit_writes", test_commit_writes);
-    part("commit_lines", test_commit_lines);
-    part("commit_stops", test_commit_stops);
-    part("commit_everywhere", test_commit_everywhere);
-    part("marked", test_marked);
-    part("settings", test_settings);
-    part("settings_changed", test_settings_changed);
-    part("settings_random", test_settings_random);
-    part("random", test_random);
+    for (const auto &[name, test] : PARTS)
+        part(name, test);
     part("sequences", [=] { test_sequences(sequences, seed); });
     part("flips", [=] { test_flips(every); });
     return closing() ? 0 : 1;

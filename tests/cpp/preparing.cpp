@@ -1,5 +1,7 @@
 #include "preparing.h"
 
+#include "receiver.h"
+
 // What the row found, as it is stated, says whether a packed value was seen: so the place follows from it and the loose value
 // alone, and not from our own store's test of what opens the packed table.
 static uint8_t place_of(const Entry &entry, const Row &row)
@@ -36,10 +38,25 @@ static void is_now(const World &world, const Store &stated, const std::string &w
     check(is_good(world.store()), "our own store breaks a rule", at);
 }
 
+// A list of more than 32 edits has no room in a receiver.
+static void closes_alike(const Store &store, const std::string &list, uint8_t mode, const World &prepared, const At &at)
+{
+    if (list.size() > receiver::ROOM)
+        return;
+    World world(store);
+    Bytes receiver = receiver::holding(list);
+    world.closes(receiver, mode, at);
+    check(world.number() == prepared.number(), "a receiver is closed with another number than the list is prepared with", at);
+    for (size_t i = 0; i < 16; i++)
+        check(world.place(i) == prepared.place(i), "a receiver is closed with another answer", at);
+    check(prepared.region().holds(world.region().data()), "a receiver is closed with another region", at);
+}
+
 void prepares(const Store &store, const std::vector<Edit> &edits, uint8_t mode, const std::vector<Row> &rows, At at)
 {
     World world(store);
     world.gives(call::prepare(write_list(edits), mode), 0, {rows.size()}, at);
+    closes_alike(store, write_list(edits), mode, world, at);
     Store stated = store;
     stated.mode = mode;
     stated.rows = rows;
@@ -57,6 +74,7 @@ void refuses(const Store &store, const std::vector<Edit> &edits, uint8_t mode, u
 {
     World world(store);
     world.gives(call::prepare(write_list(edits), mode), number, places, at);
+    closes_alike(store, write_list(edits), mode, world, at);
 }
 
 uint32_t prepare_and_roll_back(World &world, const Call &prepare, At at)

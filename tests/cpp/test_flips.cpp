@@ -121,21 +121,6 @@ static void flip_into_conflicts(const Store &store, const std::vector<size_t> &b
             check(!flip(copy, bit, call), "bit " + std::to_string(bit) + " is turned over, and the region is good still");
 }
 
-// The bits of the header and of the slots in use.
-static std::vector<size_t> bits_in_use(const Store &store)
-{
-    const size_t names = store.entries.size();
-    const std::pair<Table, size_t> tables[] = {
-        {{0, NAMES.at, 1}, 1}, {NAMES, names}, {LOOSE, names}, {PACKED, names}, {LOCKS, names}, {ROWS, store.rows.size()},
-        {LINES, store.lines.size()},
-    };
-    std::vector<size_t> bits;
-    for (const auto &[table, used] : tables)
-        for (size_t bit = 8 * table.slot(0); bit < 8 * table.slot(used); bit++)
-            bits.push_back(bit);
-    return bits;
-}
-
 static void flip_used(const Store &store)
 {
     const std::vector<size_t> bits = bits_in_use(store);

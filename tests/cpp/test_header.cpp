@@ -5,6 +5,7 @@
 #include "dehlbazin.h"
 #include "image.h"
 #include "lent.h"
+#include "receiver.h"
 #include "samples.h"
 #include "settings_samples.h"
 #include "tests.h"
@@ -14,15 +15,17 @@
 extern "C" uint64_t first_name_from_c(uint8_t *region, size_t region_len, uint32_t *number);
 extern "C" size_t list_from_c(uint8_t *list);
 extern "C" uint32_t move_from_c(uint8_t *region, size_t region_len, const uint8_t *list, size_t list_len, uint64_t *writes);
+extern "C" uint32_t fragments_from_c(uint8_t *region, size_t region_len, const uint8_t *list, size_t list_len, uint64_t *rows);
 extern "C" size_t settings_from_c(uint8_t *buffer, size_t buffer_len, uint32_t *number);
 extern "C" uint64_t site_from_c(uint8_t *region, size_t region_len, const uint8_t *record, size_t record_len, uint32_t *number);
 
-#if DEHLBAZIN_VERSION != 8000
-#error "the version is not 0.8.0, or #if cannot read it"
+#if DEHLBAZIN_VERSION != 9000
+#error "the version is not 0.9.0, or #if cannot read it"
 #endif
-static_assert(DEHLBAZIN_VERSION_MAJOR == 0 && DEHLBAZIN_VERSION_MINOR == 8 && DEHLBAZIN_VERSION_PATCH == 0);
+static_assert(DEHLBAZIN_VERSION_MAJOR == 0 && DEHLBAZIN_VERSION_MINOR == 9 && DEHLBAZIN_VERSION_PATCH == 0);
 static_assert(DEHLBAZIN_LAYOUT_VERSION == 1);
 static_assert(DEHLBAZIN_REGION_SIZE == REGION && DEHLBAZIN_ANSWER_SIZE == 16 * 8);
+static_assert(DEHLBAZIN_RECEIVER_SIZE == 870 && DEHLBAZIN_RECEIVER_SIZE == receiver::SIZE);
 
 static_assert(DEHLBAZIN_DONE == 0 && DEHLBAZIN_BAD_REGION == 1 && DEHLBAZIN_MALFORMED == 2);
 static_assert(DEHLBAZIN_NOT_REGISTERED == 3 && DEHLBAZIN_REFERENCE_CYCLE == 4 && DEHLBAZIN_TOO_MANY_ROWS == 5);
@@ -32,7 +35,8 @@ static_assert(DEHLBAZIN_REFERENCE_OUT_OF_DATE == 12 && DEHLBAZIN_DELETE_MUST_NOT
 static_assert(DEHLBAZIN_WRONG_STATE == 15 && DEHLBAZIN_NO_COMMITTER == 16 && DEHLBAZIN_USED_UP == 17);
 static_assert(DEHLBAZIN_BAD_NAME == 18 && DEHLBAZIN_NAMES_FULL == 19 && DEHLBAZIN_WRONG_LOCK == 20);
 static_assert(DEHLBAZIN_BAD_LOAD == 21 && DEHLBAZIN_NOTHING_THERE == 22 && DEHLBAZIN_MALFORMED_RECORD == 23);
-static_assert(DEHLBAZIN_UNKNOWN_VERSION == 24 && DEHLBAZIN_NAME_CONFLICT == 25 && DEHLBAZIN_SHORT_BUFFER == 33);
+static_assert(DEHLBAZIN_UNKNOWN_VERSION == 24 && DEHLBAZIN_NAME_CONFLICT == 25 && DEHLBAZIN_RECEIVER_FULL == 26);
+static_assert(DEHLBAZIN_SHORT_BUFFER == 33);
 
 static_assert(DEHLBAZIN_SETTING_NEVER == 0 && DEHLBAZIN_SETTING_NORMAL == 1 && DEHLBAZIN_SETTING_ALWAYS == 2);
 static_assert(DEHLBAZIN_KIND_NONE == NONE && DEHLBAZIN_KIND_OBJECT == OBJECT);
@@ -58,6 +62,10 @@ static_assert(DEHLBAZIN_EDIT_AT_EXPECTED == AT_EXPECTED && DEHLBAZIN_EDIT_AT_EXP
 static_assert(DEHLBAZIN_EDIT_AT_EXPECTED_NUMBER == AT_EXPECTED_TARGET + 1 && DEHLBAZIN_EDIT_AT_NEW_KIND == AT_NEW_TARGET);
 static_assert(DEHLBAZIN_EDIT_AT_NEW_NUMBER == AT_NEW_TARGET + 1 && DEHLBAZIN_EDIT_AT_NAME == AT_NAME);
 static_assert(DEHLBAZIN_EDIT_AT_MESSAGE == AT_MESSAGE && AT_MESSAGE + 2 == RECORD);
+
+static_assert(DEHLBAZIN_RECEIVER_AT_COUNT == 0 && DEHLBAZIN_RECEIVER_AT_BYTES == receiver::AT_BYTES);
+static_assert(DEHLBAZIN_RECEIVER_AT_BYTES == 2 && DEHLBAZIN_LIST_MOST_BYTES == receiver::ROOM);
+static_assert(DEHLBAZIN_RECEIVER_AT_BYTES + DEHLBAZIN_LIST_MOST_BYTES == DEHLBAZIN_RECEIVER_SIZE);
 
 static_assert(DEHLBAZIN_SETTINGS_VERSION_1 == settings::VERSION_1 && DEHLBAZIN_SETTINGS_VERSION_2 == settings::VERSION_2);
 static_assert(DEHLBAZIN_SETTINGS_MOST_COMMITTERS == settings::MOST_COMMITTERS);
@@ -245,6 +253,43 @@ static void test_list_from_c()
     check(std::string(list.data(), list.data() + size) == stated, "a list that C builds");
 }
 
+// The places of the receiver's calls, and where its count and its bytes stand.
+static void test_receiver_places()
+{
+    const std::string list = write_list({through(updating(0, object(7)))});
+    const uint8_t *bytes = reinterpret_cast<const uint8_t *>(list.data());
+    Bytes region = encode(marked()), receiver(DEHLBAZIN_RECEIVER_SIZE, 0xEE), answer(DEHLBAZIN_ANSWER_SIZE);
+    uint32_t number = dehlbazin_fresh_receiver(receiver.data(), receiver.size(), answer.data(), answer.size());
+    check(place_of(number, answer, 0) == 0, "a fresh receiver answers nothing");
+    number = dehlbazin_take_fragment(receiver.data(), receiver.size(), bytes, list.size(), answer.data(), answer.size());
+    check(place_of(number, answer, DEHLBAZIN_TAKE_FRAGMENT_HELD) == 31, "how many bytes are held");
+    check(receiver[DEHLBAZIN_RECEIVER_AT_COUNT] == 0 && receiver[DEHLBAZIN_RECEIVER_AT_COUNT + 1] == 31, "the count");
+    check(std::equal(list.begin(), list.end(), reinterpret_cast<char *>(receiver.data()) + DEHLBAZIN_RECEIVER_AT_BYTES),
+          "the bytes that are held");
+    number = dehlbazin_take_fragment(receiver.data(), receiver.size(), region.data(), 838, answer.data(), answer.size());
+    check(number == DEHLBAZIN_RECEIVER_FULL && answer == Bytes(DEHLBAZIN_ANSWER_SIZE, 0), "a fragment that is too long");
+    number = dehlbazin_close_receiver(region.data(), region.size(), receiver.data(), receiver.size(), DEHLBAZIN_MODE_DELETIONS,
+                                      answer.data(), answer.size());
+    check(place_of(number, answer, DEHLBAZIN_CLOSE_RECEIVER_ROWS) == 2, "the rows of a closing");
+    number = dehlbazin_rollback(region.data(), region.size(), answer.data(), answer.size());
+    check(place_of(number, answer, DEHLBAZIN_ROLLBACK_ROWS) == 2, "the rows given up");
+}
+
+// A list that arrives in fragments, from C.
+static void test_fragments_from_c()
+{
+    const std::string list = write_list({through(updating(0, object(7)))});
+    const uint8_t *bytes = reinterpret_cast<const uint8_t *>(list.data());
+    Lent region(encode(marked()));
+    uint64_t rows = 99;
+    check(fragments_from_c(region.data(), region.size(), bytes, list.size() - 1, &rows) == DEHLBAZIN_MALFORMED, "a byte too few");
+    check(rows == 0 && region.holds(encode(marked())), "nothing is prepared from C");
+    check(fragments_from_c(region.data(), region.size(), bytes, list.size(), &rows) == DEHLBAZIN_DONE, "fragments from C");
+    Store after = marked();
+    answer_of(after, call::prepare(list, 1));
+    check(rows == 2 && region.holds(encode(after)), "what is prepared from C");
+}
+
 // The places of the settings record's calls.
 static void test_settings_places()
 {
@@ -295,6 +340,8 @@ void test_header()
     test_commit_places();
     test_list_from_c();
     test_move_from_c();
+    test_receiver_places();
+    test_fragments_from_c();
 
     Lent region(encode(Store{}));
     uint32_t number = 99;

@@ -1,4 +1,5 @@
 // Long walks of random calls, random edit lists, and random stores: good ones, careless ones, and with random bytes changed.
+#include "arrivals.h"
 #include "preparing.h"
 #include "random_calls.h"
 #include "tally.h"
@@ -6,10 +7,13 @@
 
 #include <algorithm>
 
-// Two regions at a time, in turns: a call leaves nothing behind that the next one would see.
+// Two regions at a time, in turns, and a receiver that is closed on either: a call leaves nothing behind that the next one would
+// see.
 static void test_walks()
 {
     Tally calls, preparations, commits;
+    Arrived arrived;
+    Dock dock;
     for (uint64_t walk = 0; walk < 60; walk++) {
         Dice dice(walk);
         auto begin = [&](bool with_rows) {
@@ -18,16 +22,19 @@ static void test_walks()
             return random_store(dice, names, lines, with_rows);
         };
         World first(dice.once_in(3) ? begin(false) : ready_store(dice)), second(begin(true));
+        Arrivals arrivals(arrived);
         for (int step = 0; step < 200; step++)
             for (World *world : {&first, &second}) {
                 const Call call = random_call(dice, world->store());
                 Tally &tally = call.op == Op::prepare ? preparations : call.op == Op::commit ? commits : calls;
                 tally.given[world->agrees(call).number]++;
+                arrivals.step(dice, dock, dice.once_in(2) ? first : second);
             }
     }
     calls.all_met("random calls but prepare and commit", {0, 2, 3, 15, 18, 19, 20, 21, 22});
     preparations.all_met("prepare among random calls", {0, 2, 3, 4, 6, 7, 8, 9, 10, 11, 12, 13, 14, 15, 25});
     commits.all_met("commit among random calls", {0, 2, 15, 16, 17});
+    arrived.all_met("among random calls");
 }
 
 // Lists on stores where many of them are prepared. The rows are read, and rolling back leaves the region from before.

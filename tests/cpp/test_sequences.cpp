@@ -1,4 +1,6 @@
-// Many short sequences of random calls, all that take a region, each on a region of its own. After each call all is compared.
+// Many short sequences of random calls, all that take a region or a receiver, each on a region and a receiver of its own. After
+// each call all is compared.
+#include "arrivals.h"
 #include "nearness.h"
 #include "random_calls.h"
 #include "random_settings.h"
@@ -42,13 +44,14 @@ struct Locking {
 };
 
 // What came in all sequences: how often each call was done, which numbers were given, those of prepare and of commit apart, where
-// values were found, and how often names above and beneath others mattered.
+// values were found, how often names above and beneath others mattered, and what came to the receivers.
 struct Met {
     std::atomic<size_t> done[OPS] = {};
     Tally calls, preparations, commits, starts;
     Locking locking;
     Tally name_places, row_places, unseen; // the last of rows that do not see what is packed, where read_name would
     Nearness near;
+    Arrived arrived;
 
     void add(const Call &call, uint32_t number)
     {
@@ -84,6 +87,7 @@ struct Met {
         row_places.all_met("the places of rows in sequences", {1, 2, 3, 4, 5});
         unseen.all_met("the places of rows that do not see what is packed, in sequences", {4}); // 5 is too rare to be asked for
         near.all_met("sequences");
+        arrived.all_met("in sequences");
         for (size_t op = 0; op < OPS; op++)
             check(done[op] > 100, describe({Op(op), {}}) + " is hardly ever done");
     }
@@ -97,10 +101,12 @@ static Store beginning(Dice &dice)
     return ready_store(dice, names, lines);
 }
 
-// Some begin with a start, whatever the region holds, and some have a start with a settings record among their calls.
-static void play(Dice &dice, Met &met)
+// Some begin with a start, whatever the region holds, and some have a start with a settings record among their calls. Between them
+// the pieces of lists arrive at a receiver, which is closed when they are all there, whatever became of the store meanwhile.
+static void play(Dice &dice, Dock &dock, Met &met)
 {
     World world(beginning(dice));
+    Arrivals arrivals(met.arrived);
     NearWalk near(met.near);
     auto make = [&](const Call &call) {
         const Store before = world.store();
@@ -115,6 +121,8 @@ static void play(Dice &dice, Met &met)
         if (dice.once_in(200))
             met.starts.add(world.starts(dice.once_in(4) ? damaged_record(dice) : good_record(dice)).number);
         make(next_call(dice, world.store()));
+        for (uint64_t more = dice.below(3); more > 0; more--)
+            arrivals.step(dice, dock, world);
     }
 }
 
@@ -124,10 +132,11 @@ void test_sequences(size_t count, uint64_t seed)
     std::printf("%zu sequences with seed %llu\n", count, static_cast<unsigned long long>(seed));
     Met met;
     share_out(count, [&](size_t first, size_t end) {
+        Dock dock;
         for (size_t number = first; number < end; number++) {
             about("sequence " + std::to_string(number) + " of seed " + std::to_string(seed));
             Dice dice(seed + number * 0x9E3779B97F4A7C15);
-            play(dice, met);
+            play(dice, dock, met);
         }
     });
     if (count >= ENOUGH)

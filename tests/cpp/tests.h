@@ -29,5 +29,10 @@ void test_random();
 void test_settings();
 void test_settings_changed();
 void test_settings_random();
+void test_receiver();
+void test_receiver_sizes();
+void test_receiver_closed();
+void test_receiver_flips();
+void test_fragments();
 void test_sequences(size_t count, uint64_t seed);
 void test_flips(size_t every); // turns over one bit of each so many

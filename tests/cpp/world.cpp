@@ -2,6 +2,7 @@
 
 #include "dehlbazin.h"
 #include "entries.h"
+#include "receiver.h"
 #include "settings.h"
 
 static const uint8_t OLD = 0xEE; // what stands in a record before a call
@@ -75,6 +76,19 @@ Answer World::starts(const Bytes &settings, At at)
     given = dehlbazin_start_with_settings(lent.data(), lent.size(), first, bytes.size(), record.data(), record.size());
     compare("start with settings", wanted, at);
     check(bytes.holds(settings) && bytes.is_alone(), "start with settings: the settings", at);
+    return wanted;
+}
+
+Answer World::closes(Bytes &receiver, uint64_t mode, At at)
+{
+    begin();
+    Lent bytes(receiver);
+    std::optional<Store> store = own;
+    Answer wanted = receiver::close_receiver(store, receiver, mode);
+    own = *store;
+    given = dehlbazin_close_receiver(lent.data(), lent.size(), bytes.data(), bytes.size(), mode, record.data(), record.size());
+    compare("closing a receiver in mode " + std::to_string(mode), wanted, at);
+    check(bytes.holds(receiver) && bytes.is_alone(), "closing a receiver: its bytes", at);
     return wanted;
 }
 

@@ -22,6 +22,9 @@ public:
     // So does a start with a settings record, of any bytes.
     Answer starts(const Bytes &settings, AT_CALLER);
 
+    // So does closing a receiver, of any bytes, which becomes what our own makes of it.
+    Answer closes(Bytes &receiver, uint64_t mode, AT_CALLER);
+
     const Store &store() const { return own; }
 
     // What the archive itself gave to the last call and left of the region, right or wrong. The next call begins with the bytes

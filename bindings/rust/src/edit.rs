@@ -226,6 +226,9 @@ impl EditList {
     /// How many edits a list holds.
     pub const MOST_EDITS: usize = 32;
 
+    /// How many bytes the longest list has, and a receiver has room for.
+    pub const MOST_BYTES: usize = 868;
+
     /// A list without edits.
     pub fn new() -> EditList {
         EditList::default()

@@ -1,4 +1,4 @@
-//! The seventeen entries of the archive, and the only `unsafe` of this crate: they are declared here, and each is called here
+//! The twenty entries of the archive, and the only `unsafe` of this crate: they are declared here, and each is called here
 //! from a function that is safe to call.
 //!
 //! Three things hold of every call below, which the archive cannot test (include/dehlbazin.h):
@@ -6,19 +6,23 @@
 //! - What is lent lies apart. The region is borrowed alone (`&mut`) where the call writes it, so that no other reference leads
 //!   into it. Where the call only reads it (`&`), nothing that is written is lent beside it but the answer record. That is a
 //!   new array of [`ask`], which nobody else knows. With a settings record it is the same: the buffer that one is written to
-//!   is borrowed alone, and beside one that is read nothing else is written.
-//! - Calls on one region come one after the other, for the same reason: `&mut` is held by one at a time, and calls that only
-//!   read do not disturb each other.
+//!   is borrowed alone, and beside one that is read nothing else is written. A receiver is always borrowed alone, so that the
+//!   fragment that it takes, and the region that it is closed on, lie elsewhere.
+//! - Calls on one region or on one receiver come one after the other, for the same reason: `&mut` is held by one at a time, and
+//!   calls that only read do not disturb each other.
 //!
 //! The entries never unwind, keep no pointer, and have no memory of their own. Of `u8` every value is good, so whatever they
 //! write is one.
 #![deny(unsafe_op_in_unsafe_fn)]
 
 use crate::answer::{Answer, Record, ANSWER_SIZE};
-use crate::Region;
+use crate::{ReceiverBytes, Region};
 
 /// The size of a region, which has one layout.
 pub const REGION_SIZE: usize = 49_549;
+
+/// The size of a receiver: how many bytes it holds, in 2, and room for the longest list.
+pub const RECEIVER_SIZE: usize = 870;
 
 extern "C" {
     fn dehlbazin_start(region: *mut u8, region_len: usize, setting: u64, answer: *mut u8, answer_len: usize) -> u32;
@@ -93,6 +97,24 @@ extern "C" {
         answer_len: usize,
     ) -> u32;
     fn dehlbazin_read_row(region: *const u8, region_len: usize, place: u64, answer: *mut u8, answer_len: usize) -> u32;
+    fn dehlbazin_fresh_receiver(receiver: *mut u8, receiver_len: usize, answer: *mut u8, answer_len: usize) -> u32;
+    fn dehlbazin_take_fragment(
+        receiver: *mut u8,
+        receiver_len: usize,
+        fragment: *const u8,
+        fragment_len: usize,
+        answer: *mut u8,
+        answer_len: usize,
+    ) -> u32;
+    fn dehlbazin_close_receiver(
+        region: *mut u8,
+        region_len: usize,
+        receiver: *mut u8,
+        receiver_len: usize,
+        mode: u64,
+        answer: *mut u8,
+        answer_len: usize,
+    ) -> u32;
     fn dehlbazin_start_with_settings(
         region: *mut u8,
         region_len: usize,
@@ -201,6 +223,24 @@ pub(crate) fn read_line(region: &Region, name: u64, place: u64) -> Answer {
 pub(crate) fn read_row(region: &Region, place: u64) -> Answer {
     // SAFETY: the region is only read, and the record is ask's own.
     ask(|answer, len| unsafe { dehlbazin_read_row(region.as_ptr(), REGION_SIZE, place, answer, len) })
+}
+
+pub(crate) fn fresh_receiver(receiver: &mut ReceiverBytes) -> Answer {
+    // SAFETY: the receiver is borrowed alone, and the record is ask's own.
+    ask(|answer, len| unsafe { dehlbazin_fresh_receiver(receiver.as_mut_ptr(), RECEIVER_SIZE, answer, len) })
+}
+
+pub(crate) fn take_fragment(receiver: &mut ReceiverBytes, fragment: &[u8]) -> Answer {
+    let (at, size) = (fragment.as_ptr(), fragment.len());
+    // SAFETY: the receiver is borrowed alone, so the fragment's bytes lie elsewhere; of no bytes none is read. The record is
+    // ask's own.
+    ask(|answer, len| unsafe { dehlbazin_take_fragment(receiver.as_mut_ptr(), RECEIVER_SIZE, at, size, answer, len) })
+}
+
+pub(crate) fn close_receiver(region: &mut Region, receiver: &mut ReceiverBytes, mode: u64) -> Answer {
+    let (at, size) = (receiver.as_mut_ptr(), RECEIVER_SIZE);
+    // SAFETY: the region and the receiver are each borrowed alone, so they lie apart, and the record is ask's own.
+    ask(|answer, len| unsafe { dehlbazin_close_receiver(region.as_mut_ptr(), REGION_SIZE, at, size, mode, answer, len) })
 }
 
 pub(crate) fn start_with_settings(region: &mut Region, record: &[u8]) -> Answer {

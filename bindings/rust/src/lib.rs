@@ -28,10 +28,11 @@
 //! - What a name reads is [`Found`] in a [`Place`]: loose, packed, or neither, and perhaps behind a loose value that is broken.
 //!   A [`Row`] has the place of what prepare found.
 //! - What another program holds has a foreign lock: it is placed on a [`Lockable`], a name or the packed table.
+//! - A list that arrives in fragments is collected by a [`Receiver`]. Closing it prepares the list, as if it had come whole.
 //! - What a site keeps between runs is a record of its own: [`Settings`] are written to one, a [`SettingsView`] reads it, and
 //!   a store is started with it.
 //! - What no call can test, the borrow rules see to: that what is lent is there, that nothing overlaps, and that calls on one
-//!   region come one after the other. A [`NameNumber`] is no [`ObjectNumber`], and no number is shortened.
+//!   region or on one receiver come one after the other. A [`NameNumber`] is no [`ObjectNumber`], and no number is shortened.
 #![deny(missing_docs)]
 #![deny(unsafe_code)] // but for entries
 #![deny(unsafe_op_in_unsafe_fn)]
@@ -43,6 +44,7 @@ mod entries;
 mod found;
 mod lockable;
 mod numbers;
+mod receiver;
 mod refusal;
 mod settings;
 mod store;
@@ -53,10 +55,11 @@ mod walk;
 mod words;
 
 pub use edit::{Change, EditList, LogChange, PackedRefs, PreviousValue, RefEdit, RefLog};
-pub use entries::REGION_SIZE;
+pub use entries::{RECEIVER_SIZE, REGION_SIZE};
 pub use found::{Found, Place};
 pub use lockable::Lockable;
 pub use numbers::{Committer, Message, NameNumber, ObjectNumber, Site};
+pub use receiver::Receiver;
 pub use refusal::Refusal;
 pub use settings::{Committers, NamedCommitter, Settings, SettingsView, Version};
 pub use store::{Outcome, Setting, Store, EVERY_WRITE};
@@ -69,5 +72,9 @@ pub use words::InWords;
 /// A region of the right size. Bytes whose size is not known go to [`Store::open_in`] and [`Store::start_in`].
 pub type Region = [u8; REGION_SIZE];
 
-/// The version of the interface that this crate was written for, as `DEHLBAZIN_VERSION` of include/dehlbazin.h has it: 0.8.0.
-pub const VERSION: u32 = 8000;
+/// The bytes of a receiver, of the right size. Those whose size is not known go to [`Receiver::open_in`] and
+/// [`Receiver::fresh_in`].
+pub type ReceiverBytes = [u8; RECEIVER_SIZE];
+
+/// The version of the interface that this crate was written for, as `DEHLBAZIN_VERSION` of include/dehlbazin.h has it: 0.9.0.
+pub const VERSION: u32 = 9000;

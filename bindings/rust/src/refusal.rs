@@ -3,7 +3,8 @@
 use crate::answer::{Answer, KIND_OBJECT};
 use crate::{NameNumber, Target};
 
-/// Why a call is refused, with what comes with it. The store is as it was.
+/// Why a call is refused, with what comes with it. The store is as it was. So is a receiver, unless it was closed: then it is
+/// fresh.
 ///
 /// It borrows nothing. [`Display`](std::fmt::Display) speaks of names by their numbers, and [`in_words`](Refusal::in_words) by
 /// their bytes, which it looks up in the store. A name keeps its number and its bytes, so the words are the same at any later
@@ -27,7 +28,7 @@ use crate::{NameNumber, Target};
 #[derive(Clone, Copy, Debug, PartialEq, Eq, Hash)]
 #[non_exhaustive]
 pub enum Refusal {
-    /// 1: the region is not a good one, or has another size.
+    /// 1: the region or the receiver is not a good one, or has another size.
     BadRegion,
     /// 2: an edit list, or a number that no such type holds.
     Malformed,
@@ -111,6 +112,8 @@ pub enum Refusal {
         /// The name of the row, which links may have led to.
         name: NameNumber,
     },
+    /// 26: a fragment that is longer than the room that is left in the receiver.
+    ReceiverFull,
     /// 33: a buffer that is shorter than the settings record to be written there.
     ShortBuffer,
     /// The archive gave what this crate does not know: it is of another version.
@@ -151,6 +154,7 @@ impl Refusal {
             23 => Refusal::MalformedRecord,
             24 => Refusal::UnknownVersion,
             25 => Refusal::NameConflict { name: answer.name(0)? },
+            26 => Refusal::ReceiverFull,
             33 => Refusal::ShortBuffer,
             _ => return None,
         })
@@ -182,6 +186,7 @@ impl Refusal {
             Refusal::MalformedRecord => 23,
             Refusal::UnknownVersion => 24,
             Refusal::NameConflict { .. } => 25,
+            Refusal::ReceiverFull => 26,
             Refusal::ShortBuffer => 33,
             Refusal::Unexpected { number } => number,
         }

@@ -2,8 +2,8 @@
 
 use crate::answer::{Answer, DONE, KIND_NONE, KIND_OBJECT};
 use crate::{
-    entries, Committer, EditList, Found, Line, Lines, Lockable, Loose, NameNumber, Names, ObjectNumber, PackedRefs, Refusal,
-    Region, Row, Rows, Transaction, View,
+    entries, Committer, EditList, Found, Line, Lines, Lockable, Loose, NameNumber, Names, ObjectNumber, PackedRefs,
+    ReceiverBytes, Refusal, Region, Row, Rows, Transaction, View,
 };
 
 /// Which names get log lines.
@@ -246,6 +246,11 @@ impl Store<'_> {
     /// How many rows the edits became.
     pub(crate) fn make_rows(&mut self, edits: &EditList, packed_refs: PackedRefs) -> Result<u64, Refusal> {
         entries::prepare(self.region, &edits.bytes(), packed_refs.number()).given(|answer| Some(answer.place(0)))
+    }
+
+    /// The same with the list that a receiver holds. The receiver is fresh then.
+    pub(crate) fn make_rows_of(&mut self, receiver: &mut ReceiverBytes, packed_refs: PackedRefs) -> Result<u64, Refusal> {
+        entries::close_receiver(self.region, receiver, packed_refs.number()).given(|answer| Some(answer.place(0)))
     }
 
     /// Commits what was left prepared in the region, with every write. Refused with 15 where nothing is.

@@ -44,7 +44,12 @@ impl<'s> Transaction<'s> {
     /// Prepares the edits: all of them, or none and the reason why.
     pub fn prepare(store: &'s mut Store<'_>, edits: &EditList, packed_refs: PackedRefs) -> Result<Transaction<'s>, Refusal> {
         let row_count = store.make_rows(edits, packed_refs)?;
-        Ok(Transaction { store: store.reborrow(), row_count, over: false })
+        Ok(Transaction::of(store, row_count))
+    }
+
+    /// That which was just prepared in the store, with so many rows.
+    pub(crate) fn of(store: &'s mut Store<'_>, row_count: u64) -> Transaction<'s> {
+        Transaction { store: store.reborrow(), row_count, over: false }
     }
 
     /// How many rows the edits became.

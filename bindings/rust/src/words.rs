@@ -179,7 +179,7 @@ impl Speaker<'_> {
 /// What is said without a target.
 fn of_nothing(refusal: Refusal) -> &'static str {
     match refusal {
-        Refusal::BadRegion => "the region holds no good store",
+        Refusal::BadRegion => "the region holds no good store, or the bytes are no good receiver",
         Refusal::Malformed => "an edit list, an object, a committer or a message is malformed",
         Refusal::ReferenceCycle => "links are still followed in a fifth round",
         Refusal::TooManyRows => "the edits come to more than 160 rows",
@@ -198,6 +198,7 @@ fn of_nothing(refusal: Refusal) -> &'static str {
         Refusal::MalformedRecord => "the settings record is malformed, or a setting is out of bounds",
         Refusal::UnknownVersion => "the settings record has a version that is not known",
         Refusal::NameConflict { .. } => "a name above or beneath it has a loose value, or would get one",
+        Refusal::ReceiverFull => "the fragment is longer than the room that is left in the receiver",
         Refusal::ShortBuffer => "the buffer is shorter than the settings record",
         Refusal::NotRegistered { .. } => "no name has this number",
         Refusal::MustNotExist { .. } | Refusal::MustExist { .. } | Refusal::ReferenceOutOfDate { .. } => {

@@ -1,4 +1,4 @@
-//! The archive, through its C interface. Regions and records are always of the right size here.
+//! The archive, through its C interface. Regions, receivers and records are always of the right size here.
 
 use crate::answer::Reply;
 use crate::case::{Case, Change, Edit, End, Expected, Line, Loose, Store, Target};
@@ -51,6 +51,24 @@ mod entries {
             answer: *mut u8,
             answer_len: usize,
         ) -> u32;
+        pub fn dehlbazin_fresh_receiver(receiver: *mut u8, len: usize, answer: *mut u8, answer_len: usize) -> u32;
+        pub fn dehlbazin_take_fragment(
+            receiver: *mut u8,
+            len: usize,
+            fragment: *const u8,
+            fragment_len: usize,
+            answer: *mut u8,
+            answer_len: usize,
+        ) -> u32;
+        pub fn dehlbazin_close_receiver(
+            region: *mut u8,
+            len: usize,
+            receiver: *mut u8,
+            receiver_len: usize,
+            mode: u64,
+            answer: *mut u8,
+            answer_len: usize,
+        ) -> u32;
         pub fn dehlbazin_commit(
             region: *mut u8,
             len: usize,
@@ -87,7 +105,7 @@ impl Reported {
     }
 }
 
-/// Makes one call: the entry gets the region and the record as pointers with their lengths.
+/// Makes one call: the entry gets the region, or the receiver, and the record as pointers with their lengths.
 macro_rules! call {
     ($region:expr, $pointer:ident, $entry:ident $(, $argument:expr)*) => {{
         let mut answer = [0u8; 128];
@@ -145,6 +163,18 @@ pub fn prepare_bytes(region: &mut [u8], list: &[u8], mode: u8) -> Reported {
 
 pub fn prepare(region: &mut [u8], edits: &[Edit], mode: u8) -> Reported {
     prepare_bytes(region, &image::encode_list(edits), mode)
+}
+
+pub fn fresh_receiver(receiver: &mut [u8]) -> Reported {
+    call!(receiver, as_mut_ptr, dehlbazin_fresh_receiver)
+}
+
+pub fn take_fragment(receiver: &mut [u8], fragment: &[u8]) -> Reported {
+    call!(receiver, as_mut_ptr, dehlbazin_take_fragment, fragment.as_ptr(), fragment.len())
+}
+
+pub fn close_receiver(region: &mut [u8], receiver: &mut [u8], mode: u8) -> Reported {
+    call!(region, as_mut_ptr, dehlbazin_close_receiver, receiver.as_mut_ptr(), receiver.len(), mode.into())
 }
 
 pub fn commit(region: &mut [u8], committer: u16, allowance: u64) -> Reported {

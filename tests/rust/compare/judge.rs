@@ -5,6 +5,7 @@ use crate::archive::{self, Lockable};
 use crate::case::{Case, End, State, Target};
 use crate::conflicts;
 use crate::differences::{self, Stage};
+use crate::fragments;
 use crate::image::{self, Transaction};
 use crate::mended;
 use crate::original::{self, Odd};
@@ -132,12 +133,17 @@ fn compare(case: &Case, rust: &Answer, care: Care) -> Outcome {
     Ok(())
 }
 
-/// Compares the two calls. It hands back the region between them and the one after both.
+/// Compares the two calls, and prepare with a list that arrives in fragments. It hands back the region between the two and the one
+/// after both.
 fn compare_once(case: &Case, rust: &Answer) -> Result<(Vec<u8>, Vec<u8>), (Stage, String)> {
     let store = &case.store;
     let before = image::encode(store, &store.state, None);
     let mut region = before.clone();
-    same_reply(Stage::Prepare, &rust.reply, archive::prepare(&mut region, &case.edits, case.mode))?;
+    let prepare = archive::prepare(&mut region, &case.edits, case.mode);
+    if let Some(text) = fragments::difference(case, &before, &prepare, &region) {
+        return Err((Stage::Prepare, text));
+    }
+    same_reply(Stage::Prepare, &rust.reply, prepare)?;
     let Some(prepared) = &rust.prepared else {
         same_region(Stage::Prepare, &before, &region)?;
         return Ok((region.clone(), region));

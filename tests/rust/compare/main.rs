@@ -9,6 +9,7 @@ mod crossed;
 mod dice;
 mod differences;
 mod doubles;
+mod fragments;
 mod git;
 mod image;
 mod judge;

@@ -6,6 +6,7 @@ use crate::crossed;
 use crate::dice::Dice;
 use crate::differences;
 use crate::doubles;
+use crate::fragments;
 use crate::git::{self, Git};
 use crate::judge::Care;
 use crate::named::{self, Named};
@@ -45,6 +46,7 @@ fn some(site: &Site, stride: u64, count: u64, with_git: u64, seed: u64) -> bool 
     tallies.push(random(site, count, seed));
     tallies.extend(git(site, with_git, seed));
     tallies.push(recorded(site));
+    tallies.push(in_fragments());
     let passed: u64 = tallies.iter().map(Tally::passed).sum();
     let failed: u64 = tallies.iter().map(Tally::failed).sum();
     println!("{passed} passed, {failed} failed");
@@ -60,6 +62,14 @@ pub fn fine(tallies: &[Tally]) -> bool {
 fn recorded(site: &Site) -> Tally {
     let mut tally = replay::replay(RECORDED);
     tally.check(record::check(site, RECORDED), "the recorded cases would change");
+    tally
+}
+
+/// Every list of a case above arrived in fragments too. Of these there were some, of no bytes among them.
+fn in_fragments() -> Tally {
+    let (mut tally, [lists, fragments, empty]) = (Tally::default(), fragments::counts());
+    println!("in fragments too: {lists} lists in {fragments} fragments, {empty} of which have no bytes");
+    tally.check(lists > 0 && fragments > lists && empty > 0, "the lists were not cut, or nowhere twice");
     tally
 }
 

@@ -200,18 +200,12 @@ fn prepare_others() {
     refuses(&mut store, &[], Refusal::WrongState);
 }
 
-/// The log has room for 1,024 lines: 32 lists of 32 moves.
 fn log_full() {
-    let mut region = site(&[]);
+    let mut region = full_log();
     let mut store = done(Store::open(&mut region));
-    let names: Vec<_> = (0..32).map(|n| done(store.add_name(format!("refs/heads/aisle-{n}")))).collect();
-    for round in 1..=32 {
-        let moves = done(EditList::of(names.iter().map(|&name| RefEdit::update(name, ANY, object(round)))));
-        same(done(done(store.prepare(&moves, MODE)).commit(Committer::new(65535).unwrap())).writes(), 64);
-    }
-    same(done(store.lines(names[31])).count(), 32);
-    refuses(&mut store, &[RefEdit::update(names[0], ANY, object(99))], Refusal::LogFull);
-    refused(store.read_line(names[0], 32), Refusal::NothingThere);
+    same(done(store.lines(NameNumber(31))).count(), 32);
+    refuses(&mut store, &[RefEdit::update(NameNumber(0), ANY, object(99))], Refusal::LogFull);
+    refused(store.read_line(NameNumber(0), 32), Refusal::NothingThere);
 }
 
 fn commit() {

@@ -34,7 +34,7 @@ fn most() {
     let edits: Vec<_> =
         (0..33).map(|n| RefEdit::update(done(store.add_name(format!("refs/{n}"))), ANY, object(n + 1))).collect();
     let mut list = done(EditList::of(edits[..32].to_vec()));
-    same(list.bytes().len(), 868);
+    same((list.bytes().len(), EditList::MOST_BYTES), (868, 868));
     same(done(store.prepare(&list, MODE)).row_count(), 32);
     refused(list.push(edits[32]), Refusal::Malformed);
     same(list.edits(), &edits[..32]);

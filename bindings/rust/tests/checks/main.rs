@@ -1,15 +1,20 @@
 //! The checks of the crate, over the archive. Each comparison is counted; the last line is 'N passed, M failed'.
-//!   checks [TURNS [SEED]]   TURNS random turns are made both ways (20000 if not said), and a quarter of it random settings
+//!   checks [TURNS [SEED]]   TURNS random turns are made both ways (20000 if not said), a quarter of it random settings, and as
+//!                           many turns of a receiver
 
+mod arrivals;
 mod calls;
+mod closings;
 mod damaged;
 mod dice;
 mod edits;
+mod fragments;
 mod life;
 mod locks;
 mod marked;
 mod places;
 mod plain;
+mod receiver;
 mod record;
 mod same;
 mod settings;
@@ -25,7 +30,7 @@ fn run(part: &str, all: impl FnOnce() + std::panic::UnwindSafe) {
 
 fn main() {
     let numbers: Vec<u64> = std::env::args().skip(1).filter_map(|word| word.parse().ok()).collect();
-    let parts: [(&str, fn()); 8] = [
+    let parts: [(&str, fn()); 10] = [
         ("calls", calls::all),
         ("edits", edits::all),
         ("life", life::all),
@@ -34,6 +39,8 @@ fn main() {
         ("marked", marked::all),
         ("places", places::all),
         ("settings", settings::all),
+        ("fragments", fragments::all),
+        ("closings", closings::all),
     ];
     let mut before = 0;
     let mut say = |part: &str| {
@@ -50,6 +57,8 @@ fn main() {
     say("same");
     run("damaged", move || damaged::all(turns / 4, seed));
     say("damaged");
+    run("arrivals", move || arrivals::all(turns / 4, seed));
+    say("arrivals");
     let (passed, failed) = tally::counts();
     println!("{passed} passed, {failed} failed");
     std::process::exit(i32::from(failed > 0));

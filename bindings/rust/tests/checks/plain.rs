@@ -15,7 +15,7 @@ pub fn place(record: &Record, i: usize) -> u64 {
 }
 
 /// Declares an entry, and a function that lends it what it was lent: a region, bytes and a record, three references that lie
-/// apart. Those of a settings record take an answer record of any size.
+/// apart. Those of a settings record and of a receiver take an answer record of any size.
 macro_rules! entry {
     ($entry:ident, $name:ident, mut $(, [$bytes:ident])? $(, $number:ident)*) => {
         pub fn $name(region: &mut Region, $($bytes: &[u8],)? $($number: u64,)* record: &mut Record) -> u32 {
@@ -62,6 +62,37 @@ entry!(dehlbazin_read_line, read_line, read, name, place);
 entry!(dehlbazin_read_row, read_row, read, place);
 entry!(dehlbazin_read_settings, read_settings, settings, known);
 entry!(dehlbazin_read_committer, read_committer, settings, known, place);
+
+/// With a receiver of any size.
+pub fn fresh_receiver(receiver: &mut [u8], answer: &mut [u8]) -> u32 {
+    extern "C" {
+        fn dehlbazin_fresh_receiver(r: *mut u8, l: usize, a: *mut u8, k: usize) -> u32;
+    }
+    // SAFETY: each pointer is good for the length beside it.
+    unsafe { dehlbazin_fresh_receiver(receiver.as_mut_ptr(), receiver.len(), answer.as_mut_ptr(), answer.len()) }
+}
+
+/// The same.
+pub fn take_fragment(receiver: &mut [u8], fragment: &[u8], answer: &mut [u8]) -> u32 {
+    extern "C" {
+        fn dehlbazin_take_fragment(r: *mut u8, l: usize, f: *const u8, n: usize, a: *mut u8, k: usize) -> u32;
+    }
+    let (at, size) = (fragment.as_ptr(), fragment.len());
+    let (answer_at, answer_size) = (answer.as_mut_ptr(), answer.len());
+    // SAFETY: each pointer is good for the length beside it.
+    unsafe { dehlbazin_take_fragment(receiver.as_mut_ptr(), receiver.len(), at, size, answer_at, answer_size) }
+}
+
+/// With a region of any size too.
+pub fn close_receiver(region: &mut [u8], receiver: &mut [u8], mode: u64, answer: &mut [u8]) -> u32 {
+    extern "C" {
+        fn dehlbazin_close_receiver(r: *mut u8, l: usize, c: *mut u8, n: usize, mode: u64, a: *mut u8, k: usize) -> u32;
+    }
+    let (at, size) = (receiver.as_mut_ptr(), receiver.len());
+    let (answer_at, answer_size) = (answer.as_mut_ptr(), answer.len());
+    // SAFETY: each pointer is good for the length beside it.
+    unsafe { dehlbazin_close_receiver(region.as_mut_ptr(), region.len(), at, size, mode, answer_at, answer_size) }
+}
 
 /// With a region of any size.
 pub fn start_with_settings(region: &mut [u8], settings: &[u8], answer: &mut [u8]) -> u32 {

@@ -123,7 +123,7 @@ pub fn read_committer(record: &[u8], known: u64, place: u64) -> Reply {
 
 // ---- by the plain entries
 
-fn asked(call: impl FnOnce(&mut [u8]) -> u32) -> Reply {
+pub fn asked(call: impl FnOnce(&mut [u8]) -> u32) -> Reply {
     let mut record = [0xaa; 128]; // each place is written, so none of these stay
     let number = call(&mut record);
     let mut places = [0; 16];

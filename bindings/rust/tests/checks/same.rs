@@ -239,13 +239,18 @@ fn some_edit(dice: &mut Dice, names: u16) -> Fields {
     edit
 }
 
-fn some_prepare(dice: &mut Dice, names: u16) -> Step {
+/// Mostly one edit, sometimes a few, and sometimes as many as a list holds.
+pub fn some_edits(dice: &mut Dice, names: u16) -> Vec<Fields> {
     let count = match dice.below(40) {
         0 => 32,
         1..=12 => dice.below(6),
         _ => 1,
     };
-    Step::Prepare((0..count).map(|_| some_edit(dice, names)).collect(), 1 + dice.below(3))
+    (0..count).map(|_| some_edit(dice, names)).collect()
+}
+
+fn some_prepare(dice: &mut Dice, names: u16) -> Step {
+    Step::Prepare(some_edits(dice, names), 1 + dice.below(3))
 }
 
 /// Name 0 leads through a link or two to an object, or to nothing, and nobody holds what is on the way.

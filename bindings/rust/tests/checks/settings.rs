@@ -5,7 +5,7 @@ use crate::damaged::{read_all, Met};
 use crate::plain;
 use crate::record::*;
 use crate::site::*;
-use crate::step::{mode_of, setting_of, Reply};
+use crate::step::{bare, mode_of, setting_of};
 use crate::tally::*;
 use dehlbazin::*;
 
@@ -37,11 +37,6 @@ fn refusal_of(number: u32) -> Refusal {
         24 => Refusal::UnknownVersion,
         _ => Refusal::ShortBuffer,
     }
-}
-
-/// A refusal without places.
-fn bare(number: u32) -> Reply {
-    (number, [0; 16])
 }
 
 fn examples() {

@@ -52,6 +52,18 @@ pub fn marked() -> Box<Region> {
     region
 }
 
+/// A store whose log has no room left, for 1,024 lines are there: 32 lists of 32 moves.
+pub fn full_log() -> Box<Region> {
+    let mut region = site(&[]);
+    let mut store = done(Store::open(&mut region));
+    let names: Vec<_> = (0..32).map(|n| done(store.add_name(format!("refs/heads/aisle-{n}")))).collect();
+    for round in 1..=32 {
+        let moves = done(EditList::of(names.iter().map(|&name| RefEdit::update(name, ANY, object(round)))));
+        same(done(done(store.prepare(&moves, MODE)).commit(Committer::new(65535).unwrap())).writes(), 64);
+    }
+    region
+}
+
 pub fn list(edits: &[RefEdit]) -> EditList {
     EditList::of(edits.iter().copied()).unwrap()
 }

@@ -41,8 +41,13 @@ pub enum Step {
 /// The number, and all 16 places.
 pub type Reply = (u32, [u64; 16]);
 
+/// What a call answers that has no places: mostly a refusal.
+pub fn bare(number: u32) -> Reply {
+    (number, [0; 16])
+}
+
 /// The bytes of an edit list, by the table of docs/SPEC.md.
-fn list_bytes(edits: &[Fields]) -> Vec<u8> {
+pub fn list_bytes(edits: &[Fields]) -> Vec<u8> {
     let follow = 1 + 27 * edits.len();
     let mut bytes = vec![1, (follow >> 8) as u8, follow as u8, edits.len() as u8];
     for edit in edits {

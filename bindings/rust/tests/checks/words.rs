@@ -63,7 +63,7 @@ fn without_names() {
     let mut region = marked();
     let store = done(Store::open(&mut region));
     let refusals = [
-        (1, Refusal::BadRegion, "the region holds no good store"),
+        (1, Refusal::BadRegion, "the region holds no good store, or the bytes are no good receiver"),
         (2, Refusal::Malformed, "an edit list, an object, a committer or a message is malformed"),
         (3, Refusal::NotRegistered { number: 1 << 40 }, "name 1099511627776: no name has this number"),
         (4, Refusal::ReferenceCycle, "links are still followed in a fifth round"),
@@ -78,6 +78,7 @@ fn without_names() {
         (22, Refusal::NothingThere, "there is no such log line, row or committer"),
         (23, Refusal::MalformedRecord, "the settings record is malformed, or a setting is out of bounds"),
         (24, Refusal::UnknownVersion, "the settings record has a version that is not known"),
+        (26, Refusal::ReceiverFull, "the fragment is longer than the room that is left in the receiver"),
         (33, Refusal::ShortBuffer, "the buffer is shorter than the settings record"),
         (99, Refusal::Unexpected { number: 99 }, "an answer of the archive that this crate does not know, with number 99"),
     ];
@@ -153,6 +154,7 @@ fn every() -> Vec<Refusal> {
         Refusal::MalformedRecord,
         Refusal::UnknownVersion,
         Refusal::NameConflict { name },
+        Refusal::ReceiverFull,
         Refusal::ShortBuffer,
     ]
 }
@@ -187,9 +189,12 @@ fn header() {
         same(value(&format!("LOCKABLE_{what}")).map(u64::from), Some(kind));
     }
     same(value("DONE"), Some(Outcome::AllWritten { writes: 0 }.number()));
-    same(every().len(), 24);
+    same(every().len(), 25);
     same(value("REGION_SIZE"), Some(REGION_SIZE as u32));
+    same(value("RECEIVER_SIZE"), Some(RECEIVER_SIZE as u32));
     same(value("LIST_MOST_EDITS"), Some(EditList::MOST_EDITS as u32));
+    let edits = value("LIST_EDIT_SIZE").zip(value("LIST_MOST_EDITS")).map_or(0, |(size, most)| size * most);
+    same(value("LIST_HEADER_SIZE").map(|header| header + edits), Some(EditList::MOST_BYTES as u32));
     same(value("SETTINGS_MOST_COMMITTERS"), Some(Settings::MOST_COMMITTERS as u32));
     same(value("SETTINGS_MOST_BYTES"), Some(Settings::MOST_BYTES as u32));
     let part = |name| value(name).unwrap_or(999);
