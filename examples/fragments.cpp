@@ -53,7 +53,7 @@ static std::vector<Packet> sent(const EditList &list)
 
 static void take(Receiver &receiver, const Packet &packet)
 {
-    const auto held = receiver.take(packet.data(), packet.size());
+    const auto held = receiver.take(packet);
     if (const Refusal *refusal = held.refusal())
         std::printf("%u bytes: refused with number %u, %s\n", unsigned(packet.size()), unsigned(refusal->number()),
                     refusal->reason_name());

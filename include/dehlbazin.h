@@ -7,9 +7,9 @@
  * record; then the three of a list that arrives in fragments, of which one takes a region; and at the end the four of
  * docs/SETTINGS.md, of which one takes a region. Each run of bytes is a pointer and a length.
  * Each call returns a number: DEHLBAZIN_DONE, or the reason of a refusal. A refused call changes no byte of the region, or of the
- * buffer that it was to write into, but for one: dehlbazin_close_receiver leaves a fresh receiver, refused or not. Two numbers are
- * neither: with DEHLBAZIN_NO_COMMITTER and DEHLBAZIN_USED_UP dehlbazin_commit has stopped on its way, and what it wrote until then
- * stays.
+ * buffer that it was to write into, but for one: dehlbazin_close_receiver leaves a fresh receiver, refused or not, unless it is the
+ * receiver itself or the answer record that is refused. Two numbers are neither: with DEHLBAZIN_NO_COMMITTER and DEHLBAZIN_USED_UP
+ * dehlbazin_commit has stopped on its way, and what it wrote until then stays.
  *
  * The answer record has DEHLBAZIN_ANSWER_SIZE bytes: 16 places of 8, big-endian, which dehlbazin_place reads. A call that is given
  * a record of that size fills all of it, with 0 in each place that it does not use. A call that is given any other size
@@ -55,10 +55,10 @@
 #define DEHLBAZIN_ANSWER_SIZE 128
 #define DEHLBAZIN_RECEIVER_SIZE 870
 
-/* ---- the numbers that calls return. 4 to 14 and 25 are given by prepare alone, and 5 by nothing: no list comes to more than 160
- * rows. 16 and 17 are given by commit alone, which has then stopped before a write: they are no refusals. 26 is given by taking a
- * fragment alone, and 23, 24 and 33 by the four calls of the settings record alone. The numbers between are given by nothing. Closing
- * a receiver gives what prepare gives. */
+/* ---- the numbers that calls return. 4 to 14 and 25 are given by prepare, and by closing a receiver, alone, and 5 by nothing: no
+ * list comes to more than 160 rows. 16 and 17 are given by commit alone, which has then stopped before a write: they are no
+ * refusals. 26 is given by taking a fragment alone, and 23, 24 and 33 by the four calls of the settings record alone. The numbers
+ * between are given by nothing. */
 
 #define DEHLBAZIN_DONE 0
 #define DEHLBAZIN_BAD_REGION 1                   /* the region or the receiver is no good one, or the answer has the wrong size */
@@ -170,9 +170,10 @@
 #define DEHLBAZIN_EDIT_AT_NAME 23           /* 2 bytes */
 #define DEHLBAZIN_EDIT_AT_MESSAGE 25        /* 2 bytes; 0 with delete */
 
-/* ---- a receiver, which collects an edit list that arrives in fragments: how many bytes it holds, in 2 bytes, big-endian; these bytes;
- * and zeros. It has room for the longest list, and needs no region before it is closed. A good one is what accepted fragments leave,
- * and nothing else: a count above DEHLBAZIN_LIST_MOST_BYTES, or another byte than 0 behind what is held, is none. */
+/* ---- a receiver, which collects an edit list that arrives in fragments: how many bytes it holds, in 2 bytes, big-endian; these
+ * bytes; and zeros. It has room for the longest list, and needs no region before it is closed. A good one is what accepted
+ * fragments leave, and nothing else: one with a count above DEHLBAZIN_LIST_MOST_BYTES, or with another byte than 0 behind what it
+ * holds, is none. */
 
 #define DEHLBAZIN_RECEIVER_AT_COUNT 0 /* 2 bytes */
 #define DEHLBAZIN_RECEIVER_AT_BYTES 2 /* DEHLBAZIN_LIST_MOST_BYTES of them */
@@ -425,9 +426,9 @@ uint32_t dehlbazin_take_fragment(uint8_t *receiver, size_t receiver_len, const u
                                  uint8_t *answer, size_t answer_len);
 
 /* Prepares a transaction with the list that the receiver holds: answer and region are those of dehlbazin_prepare with the accepted
- * fragments joined, however they were cut. Bytes that are missing, or stand behind the list, make it malformed: 2, in prepare's order.
- * A fresh receiver follows, refused or not, so a list that was refused is sent again. Two refusals leave the receiver as it is: 1 of
- * the receiver itself, and 1 of an answer record of another size. A region that is not good is refused too, and leaves a fresh one.
+ * fragments joined, however they were cut. Bytes that are missing, or stand behind the list, make it malformed: 2, in prepare's
+ * order. A fresh receiver follows, refused or not, so a list that was refused is sent again. Two refusals leave the receiver as it
+ * is: 1 of the receiver itself, and 1 of an answer record of another size. A region that is not good leaves a fresh one.
  * mode: DEHLBAZIN_MODE_..
  * refused: as dehlbazin_prepare, with its places and in its order.
  * places: 0 how many rows, 0 to 160. */

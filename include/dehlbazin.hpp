@@ -1276,6 +1276,16 @@ inline Result<uint64_t> Transaction::rollback()
 
 // ---- a list that arrives in fragments
 
+namespace detail {
+
+// A range of bytes that stand one after the other.
+template <typename Bytes>
+using IfBytes =
+    std::enable_if_t<std::is_convertible_v<decltype(std::data(std::declval<const Bytes &>())), const uint8_t *>,
+                     decltype(std::begin(std::declval<const Bytes &>()))>;
+
+} // namespace detail
+
 // Bytes that are lent for as long as the receiver lives, and in which an edit list is collected: its bytes, EditList's data() and
 // size(), cut anywhere. There is room for the longest list, 868 bytes.
 class Receiver {
@@ -1326,6 +1336,11 @@ public:
     Result<size_t> take(std::string_view fragment)
     {
         return take(reinterpret_cast<const uint8_t *>(fragment.data()), fragment.size());
+    }
+    // Bytes that know how many they are: an array, a std::array, a std::vector, and in C++20 a std::span.
+    template <typename Bytes, typename = detail::IfBytes<Bytes>> Result<size_t> take(const Bytes &fragment)
+    {
+        return take(std::data(fragment), std::size(fragment));
     }
     // Nothing that would end at its first zero: a list has some.
     Result<size_t> take(const char *) = delete;

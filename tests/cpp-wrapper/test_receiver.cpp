@@ -122,6 +122,21 @@ static void test_take()
     check(std::equal(all.begin(), all.end(), inbox.bytes.begin() + 2), "the bytes");
 }
 
+// Bytes that know how many they are, zeros among them.
+static void test_take_ranges()
+{
+    Inbox inbox;
+    const uint8_t plain[2] = {0, 1};
+    std::array<uint8_t, 3> fixed = {2, 0, 3};
+    const std::vector<uint8_t> grown = {4, 5, 6, 0};
+    check(holds(inbox.receiver.take(plain), 2) && holds(inbox.receiver.take(fixed), 5) && holds(inbox.receiver.take(grown), 9),
+          "an array, a std::array and a std::vector");
+    check(holds(inbox.receiver.take(std::vector<uint8_t>()), 9), "an empty one");
+    const std::vector<uint8_t> held = {0, 1, 2, 0, 3, 4, 5, 6, 0, 0};
+    check(std::equal(held.begin(), held.end(), inbox.bytes.begin() + 2), "the bytes, and a zero behind them");
+    refused(inbox.receiver.take(std::vector<uint8_t>(860, 7)), Reason::receiver_full);
+}
+
 // A fragment that lies in the receiver itself is copied first.
 static void test_own_bytes()
 {
@@ -242,6 +257,7 @@ void test_receiver()
     test_open();
     test_moves();
     test_take();
+    test_take_ranges();
     test_own_bytes();
     test_close();
     test_let_go();

@@ -1,12 +1,11 @@
 -- What each way out of the receiver's functions leaves. Assumes nothing.
 use mathlib.Core.Path.{_≡_, refl, sym, ap, ap₂, _∙_}
 use mathlib.Core.Bool.{Bool, true, false, false≢true}
-use mathlib.Core.List.{List, [], _++_, append-assoc}
+use mathlib.Core.List.{List, _++_, append-assoc}
 use Prim.Native.Nat.{ℕ, _+_, _-_, _≤_, _<_}
 use native.Mathlib.Omega.{arith}
-use lib.ListN.{length, take, drop, getD, replicate, length-append, length-drop, length-replicate, replicate-append-replicate}
+use lib.ListN.{length, drop, getD, replicate, length-append, length-drop, length-replicate, replicate-append-replicate}
 use lib.Seq.{drop-at, take-all}
-use lib.Dec.{eqb}
 use mir.Syntax.{w8}
 use mir.Val.{Fits}
 use borrow.Author.Tests.{ne-eqb}
@@ -16,7 +15,7 @@ use Rattle.word.specs.Cut.{put}
 use Rattle.word.proofs.Be.{length-be, bytes-all}
 use Rattle.word.proofs.Cut.{put-right}
 use Rattle.receiver.specs.Receiver.{capacity, receiverSize, holding, fresh, held, isReceiver, Good}
-use Rattle.receiver.proofs.Image.{rest, good-size, good-image, good-room, good-count, good-zeros, good-bytes}
+use Rattle.receiver.proofs.Image.{good-image, good-room, good-count, good-zeros, good-bytes}
 
 -- ---- whether it is good
 

@@ -1,11 +1,10 @@
 -- The calls on a receiver: what each of their ways out answers. Assumes nothing.
 use mathlib.Core.Path.{_≡_, refl, sym, ap, _∙_}
-use mathlib.Core.Bool.{Bool, true, false, not, cond}
+use mathlib.Core.Bool.{Bool, true, false, not}
 use mathlib.Core.List.{List, [], _∷_, _++_}
 use Prim.Native.Nat.{ℕ, _+_, _-_, _≤_, _<_}
 use native.Mathlib.Omega.{arith}
 use lib.ListN.{length, length-append}
-use lib.Dec.{eqb, ltb}
 use borrow.Author.Tests.{eq-eqb, ne-eqb, lt-ltb, le-ltb, not-true, not-false}
 use Rattle.model.specs.declared.Refusal.the-variants.{BadRegion, ReceiverFull}
 use Rattle.model.specs.Outcome.{Outcome}
@@ -20,7 +19,7 @@ use Rattle.receiver.specs.Receiver.{capacity, receiverSize, holding, fresh, hel
 use Rattle.receiver.proofs.Image.{held-holding, is-good, good-room}
 use Rattle.region.specs.Region.{nameOffset}
 use Rattle.calls.specs.Call.{replyTo, replyToClosing, regionAfter, Replied, Closed, Keeps}
-use Rattle.receiving.specs.Fragments.{ReceiverCall, receiverOf, givenOf, keptAs, received}
+use Rattle.receiving.specs.Fragments.{ReceiverCall, receiverOf, keptAs, received}
 use Rattle.receiving.specs.Fragments.ReceiverCall.{freshReceiver, takeFragment}
 
 -- ---- what accessors ask for

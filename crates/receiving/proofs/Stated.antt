@@ -25,7 +25,7 @@ use Rattle.receiving.specs.Fragments.{ReceiverCall, receiverOf, keptAs, 
 use Rattle.receiving.specs.Fragments.ReceiverCall.{freshReceiver, takeFragment}
 use Rattle.receiving.specs.Stated.{Received, Holds, GoodExactly, ClosesAsPrepare, TakesExactly, ReceiverUnchanged, ReceiverRefused, FreshFollows, RecordRefused}
 use Rattle.receiving.specs.Stated.Received.{begun, took, left, closed as shut}
-use Rattle.receiving.proofs.Laws.{taken-bad, taken-full, taken-done, held-then}
+use Rattle.receiving.proofs.Laws.{taken-bad, taken-full, taken-done}
 
 -- ---- a call on a receiver alone
 

@@ -5,7 +5,7 @@ use Prim.Native.Nat.{ℕ}
 use lib.ListN.{length}
 use Rattle.model.specs.Outcome.{Outcome}
 use Rattle.model.specs.Outcome.Outcome.{refuse, pass}
-use Rattle.model.specs.Numbers.{Answer, answer, refusalAnswer}
+use Rattle.model.specs.Numbers.{answer, refusalAnswer}
 use Rattle.receiver.specs.Receiver.{held, freshened, taken}
 use Rattle.calls.specs.Call.{Out, Kept, keptCall}
 

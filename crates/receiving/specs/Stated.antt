@@ -10,7 +10,7 @@ use Rattle.model.specs.Reply.Call.{prepare}
 use Rattle.model.specs.Numbers.{answer}
 use Rattle.answers.specs.Answers.{recordOf}
 use Rattle.receiver.specs.Receiver.{capacity, holding, fresh, held, isReceiver}
-use Rattle.calls.specs.Call.{Out, call, closeCall, beside, Did}
+use Rattle.calls.specs.Call.{call, closeCall, beside, Did}
 use Rattle.receiving.specs.Fragments.{ReceiverCall, receiverCall}
 use Rattle.receiving.specs.Fragments.ReceiverCall.{freshReceiver, takeFragment}
 

@@ -7,12 +7,12 @@ use Prim.Native.Nat.{ℕ}
 use lib.ListN.{length}
 use lib.Dec.{ltb, leb}
 use lib.Pow.{areBytes}
-use Rattle.model.specs.declared.Refusal.the-variants.{MalformedRecord, UnknownVersion, NothingThere, ShortBuffer}
+use Rattle.model.specs.declared.Refusal.the-variants.{MalformedRecord, UnknownVersion, NothingThere}
 use Rattle.model.specs.Outcome.{Outcome, orRefuse}
 use Rattle.model.specs.Outcome.Outcome.{refuse, pass}
 use Rattle.model.specs.Numbers.{Answer, answer, refusalAnswer}
 use Rattle.settings.specs.Format.{Settings, isVersion, settingsIn, readAs, read}
-use Rattle.settings.specs.Lent.{writeGiven, fitted, afterwards}
+use Rattle.settings.specs.Lent.{writeGiven, fitted}
 use Rattle.reader.specs.declared.Summary.{Summary}
 use Rattle.reader.specs.declared.Reading.{Reading}
 use Rattle.reader.specs.declared.Reading.the-variants.{Unknown, Malformed, Read}

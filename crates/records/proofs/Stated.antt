@@ -1,22 +1,21 @@
 -- What specs/Stated.antt states, proved. Assumes nothing.
-use mathlib.Core.Path.{_≡_, refl, sym, ap, _∙_}
+use mathlib.Core.Path.{_≡_, refl, ap, _∙_}
 use mathlib.Core.Bool.{Bool, true, false, cond}
 use mathlib.Core.List.{List, [], _∷_, _++_}
-use mathlib.Core.Option.{Option}
-use Prim.Native.Nat.{ℕ, _<_}
+use Prim.Native.Nat.{ℕ}
 use native.Mathlib.Omega.{arith}
 use lib.ListN.{length, drop}
-use lib.Dec.{eqb, ltb, leb}
+use lib.Dec.{eqb, leb}
 use borrow.Author.Tests.{lt-ltb}
 use Rattle.model.specs.declared.Refusal.the-variants.{NothingThere, ShortBuffer}
 use Rattle.model.specs.Outcome.{Outcome}
 use Rattle.model.specs.Outcome.Outcome.{refuse, pass}
 use Rattle.model.specs.Numbers.{answer, refusalAnswer}
-use Rattle.settings.specs.Format.{Settings, read}
+use Rattle.settings.specs.Format.{Settings}
 use Rattle.settings.specs.Lent.{committerAt, nameAt, writeGiven, fitted, afterwards}
 use Rattle.settings.proofs.Stated.{name-stands}
 use Rattle.answers.specs.Answers.{recordOf}
-use Rattle.calls.specs.Call.{Out, untouched, Did, Kept, keptOut}
+use Rattle.calls.specs.Call.{Out, untouched, Kept, keptOut}
 use Rattle.calls.proofs.Exports.{refusal-number, only}
 use Rattle.records.specs.Record.{RecordCall, committerAnswer, writeAnswer, kept, recordCall, stretch, committerPart}
 use Rattle.records.specs.Record.RecordCall.{readSettings, readCommitter, writeSettings}

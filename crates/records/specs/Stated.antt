@@ -2,9 +2,9 @@
 -- stand in proofs/Stated.antt.
 use mathlib.Core.Path.{_≡_}
 use mathlib.Core.List.{List, [], _∷_, _++_}
-use mathlib.Core.Option.{Option, some}
+use mathlib.Core.Option.{Option}
 use Prim.Native.Nat.{ℕ, _<_}
-use lib.ListN.{length, drop, getD}
+use lib.ListN.{length, drop}
 use Rattle.model.specs.Outcome.Outcome.{pass}
 use Rattle.answers.specs.Answers.{recordOf}
 use Rattle.model.specs.Numbers.{answer}
