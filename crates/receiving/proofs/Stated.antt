@@ -24,7 +24,7 @@ use Rattle.calls.proofs.Exports.{refusal-number, only}
 use Rattle.receiving.specs.Fragments.{ReceiverCall, receiverOf, keptAs, received, receiverCall}
 use Rattle.receiving.specs.Fragments.ReceiverCall.{freshReceiver, takeFragment}
 use Rattle.receiving.specs.Stated.{Received, Holds, GoodExactly, ClosesAsPrepare, TakesExactly, ReceiverUnchanged, ReceiverRefused, FreshFollows, RecordRefused}
-use Rattle.receiving.specs.Stated.Received.{begun, took, left, closed as shut}
+use Rattle.receiving.specs.Stated.Received.{begun, took, left, closed as shut, spared}
 use Rattle.receiving.proofs.Laws.{taken-bad, taken-full, taken-done}
 
 -- ---- a call on a receiver alone
@@ -179,6 +179,8 @@ holds fs b (left {b = b₀} was c n a a′ _ d not-done) =
 holds _ b (shut {fs = fs} {b = b₀} was mode n r a a′ r′ _ d l) =
     let x = fresh-follows mode r b₀ a n a′ (r′ ∷ b ∷ []) (image-good b₀ (flat fs) (holds fs b₀ was)) l d in
     (second r′ (x .0) b fresh (x .1), omega arith)
+holds fs b (spared {b = b₀} was mode n r a a′ r′ _ d other) =
+    rw (second r′ r b b₀ (record-refused mode r b₀ a n a′ (r′ ∷ b ∷ []) other d .2)) (holds fs b₀ was)
 
 -- what a call comes to with a record of 128 bytes is what it does
 comes-did : (c : ReceiverCall) (b a : List ℕ) (o : Outcome (List ℕ)) → length a ≡ 128 → receiverOf c b ≡ o

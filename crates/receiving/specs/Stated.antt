@@ -15,7 +15,7 @@ use Rattle.receiving.specs.Fragments.{ReceiverCall, receiverCall}
 use Rattle.receiving.specs.Fragments.ReceiverCall.{freshReceiver, takeFragment}
 
 -- ---- what our calls leave, from a receiver made fresh on: the fragments accepted since then, in their order, and the receiver's bytes.
--- Fragments that are refused in between, and answer records of any size, are part of it
+-- Calls that are refused in between, closings too, and answer records of any size are part of it
 
 pub data Received : List (List ℕ) → List ℕ → Type 0 where
   begun : (b a a′ b′ : List ℕ) → Did (receiverCall freshReceiver b a) 0 a′ (b′ ∷ []) → Received [] b′
@@ -25,6 +25,8 @@ pub data Received : List (List ℕ) → List ℕ → Type 0 where
       → (c : ReceiverCall) (n : ℕ) (a a′ b′ : List ℕ) → Did (receiverCall c b a) n a′ (b′ ∷ []) → (n ≡ 0 → ⊥) → Received fs b′
   closed : {fs : List (List ℕ)} {b : List ℕ} → Received fs b
       → (mode n : ℕ) (r a a′ r′ b′ : List ℕ) → Did (closeCall mode r b a) n a′ (r′ ∷ b′ ∷ []) → length a ≡ 128 → Received [] b′
+  spared : {fs : List (List ℕ)} {b : List ℕ} → Received fs b
+      → (mode n : ℕ) (r a a′ r′ b′ : List ℕ) → Did (closeCall mode r b a) n a′ (r′ ∷ b′ ∷ []) → (length a ≡ 128 → ⊥) → Received fs b′
 
 -- It is the image of the fragments joined, for which there is room: however they were cut.
 abbrev pub Holds : Type 0
