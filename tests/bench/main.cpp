@@ -24,5 +24,7 @@ int main(int count, char **words)
         print_growth();
     if (is_asked(count, words, "lookups"))
         print_lookups();
+    if (is_asked(count, words, "fragments"))
+        print_fragments();
     return 0;
 }

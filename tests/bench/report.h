@@ -23,3 +23,6 @@ void print_growth();
 
 // Adding names that begin alike, and names that end alike.
 void print_lookups();
+
+// Taking fragments, and closing beside prepare.
+void print_fragments();
