@@ -17,7 +17,8 @@
  *
  * Every call that takes a region tests it whole before it does anything. It returns DEHLBAZIN_BAD_REGION, with an answer of zeros,
  * if the length is not DEHLBAZIN_REGION_SIZE or the bytes are no good store. (dehlbazin_start and dehlbazin_start_with_settings
- * look at the length alone.)
+ * look at the length alone. dehlbazin_close_receiver tests the receiver first, and a good one is fresh then even where the region
+ * is refused.)
  *
  * Every number is passed with 64 bits. One that is too large is refused, never shortened: name 65536 + k is not name k.
  *
