@@ -1,5 +1,5 @@
-// What a list in fragments costs: taking one, by its length and by how much is held already; and closing, beside prepare on the whole
-// list. An older archive has no receiver, so only the present one is measured.
+// What a list in fragments costs: taking one, by its length and by how much is held already; and closing, beside prepare on the
+// whole list. An older archive has no receiver, so only the present one is measured.
 #include "paper.h"
 #include "report.h"
 #include "sites.h"
@@ -41,8 +41,11 @@ static void print_take(size_t held, size_t length)
     const Bytes fragment(length, 7);
     ReceiverBytes receiver = before;
     must(take(receiver, fragment) == DEHLBAZIN_DONE);
-    const std::vector<Timed> timed =
-        measure({[&] { receiver = before; take(receiver, fragment); }, [&] { receiver = before; sink = receiver[2]; }});
+    auto put_back = [&] {
+        receiver = before;
+        sink = receiver[2];
+    };
+    const std::vector<Timed> timed = measure({[&] { put_back(), take(receiver, fragment); }, put_back});
     const Timed took = without(timed[0], timed[1]);
     print_row({std::to_string(held), std::to_string(length), time_text(took.least), percent_text(took.spread())});
 }
@@ -60,11 +63,16 @@ static void print_close(const char *what, const Bytes &region, const std::vector
         return dehlbazin_close_receiver(now.data(), now.size(), receiver.data(), receiver.size(), mode, record, sizeof record);
     };
     must(prepare() == DEHLBAZIN_DONE);
-    const Bytes prepared = now;
+    const Bytes prepared = now, answer(record, record + sizeof record);
     now = region;
-    must(close() == DEHLBAZIN_DONE && now == prepared && receiver == holding({}));
-    const std::vector<Timed> timed = measure({[&] { now = region; receiver = full; prepare(); },
-                                              [&] { now = region; receiver = full; close(); }, [&] { now = region; receiver = full; sink = receiver[2]; }});
+    must(close() == DEHLBAZIN_DONE && now == prepared && Bytes(record, record + sizeof record) == answer);
+    must(receiver == holding({}));
+    auto put_back = [&] {
+        now = region;
+        receiver = full;
+        sink = receiver[2];
+    };
+    const std::vector<Timed> timed = measure({[&] { put_back(), prepare(); }, [&] { put_back(), close(); }, put_back});
     const Timed whole = without(timed[0], timed[2]), closed = without(timed[1], timed[2]);
     print_row({what, std::to_string(list.size()), time_text(whole.least), time_text(closed.least),
                ratio_text(closed.least / whole.least), percent_text(closed.spread())});
