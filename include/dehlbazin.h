@@ -1,9 +1,9 @@
 /* Dehlbazin: the refs of a site's aisle layouts, in one region of bytes that the caller lends. For C and for C++.
  *
- * docs/SPEC.md says what the calls mean, docs/ABI.md how to use them, docs/LAYOUT.md what stands in the region, and
- * docs/SETTINGS.md what stands in a settings record.
+ * docs/SPEC.md says what the calls mean, docs/ABI.md how to use them, docs/LAYOUT.md what stands in the region,
+ * docs/PACKED-TEXT.md what stands in the packed table's text, and docs/SETTINGS.md what stands in a settings record.
  *
- * These are the thirteen calls of docs/SPEC.md, each of which takes the region first, then its own arguments, then the answer
+ * These are the fifteen calls of docs/SPEC.md, each of which takes the region first, then its own arguments, then the answer
  * record; then the three of a list that arrives in fragments, of which one takes a region; and at the end the four of
  * docs/SETTINGS.md, of which one takes a region. Each run of bytes is a pointer and a length.
  * Each call returns a number: DEHLBAZIN_DONE, or the reason of a refusal. A refused call changes no byte of the region, or of the
@@ -25,8 +25,8 @@
  * What no call can test, so that the caller must see to it:
  *   - that each pointer is good for its length. (With length 0 it may be null. One to bytes need not be aligned. The two to
  *     uint64_t, which dehlbazin_write_settings takes, are aligned as a uint64_t is.)
- *   - that all that is lent to one call lies apart: region, name, list, receiver, fragment, settings record, buffer, numbers,
- *     lengths and answer. The bytes that dehlbazin_name_bytes points out lie in the region, so a name got from it is copied
+ *   - that all that is lent to one call lies apart: region, name, list, text, receiver, fragment, settings record, buffer,
+ *     numbers, lengths and answer. The bytes that dehlbazin_name_bytes points out lie in the region, so a name got from it is copied
  *     before it is passed to dehlbazin_add_name.
  *   - that calls on one region, or on one receiver, come one after the other. (Calls on different ones may come at the same time:
  *     no call has state of its own, or keeps a pointer when it returns.)
@@ -38,10 +38,10 @@
 #include <stdint.h>
 
 /* ---- the version of this interface: of this header and of the archive's entries. Each part is below 1000, so that a later
- * version is a greater number: 0.9.0 is 9000, and 1.2.3 would be 1002003. #if can test it. */
+ * version is a greater number: 0.10.0 is 10000, and 1.2.3 would be 1002003. #if can test it. */
 
 #define DEHLBAZIN_VERSION_MAJOR 0
-#define DEHLBAZIN_VERSION_MINOR 9
+#define DEHLBAZIN_VERSION_MINOR 10
 #define DEHLBAZIN_VERSION_PATCH 0
 #define DEHLBAZIN_VERSION                                                                                                    \
     (DEHLBAZIN_VERSION_MAJOR * 1000000 + DEHLBAZIN_VERSION_MINOR * 1000 + DEHLBAZIN_VERSION_PATCH)
@@ -58,8 +58,8 @@
 
 /* ---- the numbers that calls return. 4 to 14 and 25 are given by prepare, and by closing a receiver, alone, and 5 by nothing: no
  * list comes to more than 160 rows. 16 and 17 are given by commit alone, which has then stopped before a write: they are no
- * refusals. 26 is given by taking a fragment alone, and 23, 24 and 33 by the four calls of the settings record alone. The numbers
- * between are given by nothing. */
+ * refusals. 26 is given by taking a fragment alone, 27 by reading a text alone, 32 by writing one alone, and 23, 24 and 33 by the
+ * four calls of the settings record alone. The numbers between are given by nothing. */
 
 #define DEHLBAZIN_DONE 0
 #define DEHLBAZIN_BAD_REGION 1                   /* the region or the receiver is no good one, or the answer has the wrong size */
@@ -88,6 +88,8 @@
 #define DEHLBAZIN_UNKNOWN_VERSION 24             /* a settings record has a version that is not known */
 #define DEHLBAZIN_NAME_CONFLICT 25               /* a name above or beneath the row's has a loose value, or would get one */
 #define DEHLBAZIN_RECEIVER_FULL 26               /* a fragment is longer than the room that is left */
+#define DEHLBAZIN_MALFORMED_LINE 27              /* a line of a packed table's text is malformed */
+#define DEHLBAZIN_TEXT_TOO_LONG 32               /* the packed table's text is longer than the buffer */
 #define DEHLBAZIN_SHORT_BUFFER 33                /* the settings record is longer than the buffer */
 
 /* ---- settings: which names get log lines (docs/SPEC.md, due lines) */
@@ -179,6 +181,12 @@
 #define DEHLBAZIN_RECEIVER_AT_COUNT 0 /* 2 bytes */
 #define DEHLBAZIN_RECEIVER_AT_BYTES 2 /* DEHLBAZIN_LIST_MOST_BYTES of them */
 
+/* ---- the packed table as text, in lines as git's packed-refs file has them: 40 lower-case hex digits, of which the first 24 are
+ * zeros, a space, the name, a line feed. docs/PACKED-TEXT.md has its grammar. */
+
+#define DEHLBAZIN_PACKED_TEXT_DIGITS 40        /* of an object's number */
+#define DEHLBAZIN_PACKED_TEXT_MOST_BYTES 27136 /* of a text that is written: a buffer of so many bytes is never too short */
+
 /* ---- a settings record, which a site keeps between runs: its log setting, its usual mode, its committers and its site number.
  * docs/SETTINGS.md has its bytes. */
 
@@ -226,6 +234,10 @@
 #define DEHLBAZIN_READ_ROW_LEAF_PREVIOUS 12
 #define DEHLBAZIN_READ_ROW_FOUND 13
 
+#define DEHLBAZIN_WRITE_PACKED_LENGTH 0
+
+#define DEHLBAZIN_READ_PACKED_REFS 0
+
 #define DEHLBAZIN_TAKE_FRAGMENT_HELD 0
 
 #define DEHLBAZIN_CLOSE_RECEIVER_ROWS 0
@@ -270,6 +282,8 @@
 #define DEHLBAZIN_DELETE_MUST_NOT_EXIST_NAME 0
 
 #define DEHLBAZIN_NAME_CONFLICT_NAME 0 /* the row's own name, which links may have led to */
+
+#define DEHLBAZIN_MALFORMED_LINE_NUMBER 0 /* from 1, comments counted */
 
 /* ---- places of the answer record, by the number of a stop of commit: how many writes were made before it */
 
@@ -411,6 +425,27 @@ uint32_t dehlbazin_read_line(const uint8_t *region, size_t region_len, uint64_t 
  * did not, as with rows of the log only, a name that has nothing but a packed value is absent here, while dehlbazin_read_name finds
  * it packed. The place stays the same as long as the transaction is prepared. */
 uint32_t dehlbazin_read_row(const uint8_t *region, size_t region_len, uint64_t place, uint8_t *answer, size_t answer_len);
+
+/* Writes the packed table as text at the beginning of a buffer: a line for each name that has a packed value, in byte order of the
+ * names, without a header. It looks at no lock, and a transaction may be prepared. Bytes of the buffer past the text stay as they
+ * are, and a table without values has a text of no bytes.
+ * refused: 32 the buffer is shorter than the text.
+ * places: 0 how many bytes the text has. */
+uint32_t dehlbazin_write_packed(const uint8_t *region, size_t region_len, uint8_t *buffer, size_t buffer_len, uint8_t *answer,
+                                size_t answer_len);
+
+/* Reads a text, and puts what it says in the place of the whole packed table: a name that the text does not have has no packed
+ * value then. Names that are not known are added, in line order. Loose values, locks and logs stay, and so do the numbers of the
+ * names; no lock is looked at. A text of no bytes is an empty table.
+ * A line is a ref line; or a comment, which begins with '#'; or, directly after a ref line, '^' and 40 lower-case hex digits, which
+ * git writes of a tag. The last two say nothing. Names rise strictly, in byte order.
+ * refused: 15 a transaction is prepared; then the first line at fault decides, and of its faults this order: 27 it is malformed
+ * (place 0 its number, from 1, comments counted): of another form, without its line feed, with a name that is none or does not stand
+ * behind that of the ref line before, or with an object above 2^64-1; 21 object 0, or a name that is not packable; 19 the name is
+ * new, and 256 are held with those that the lines before added.
+ * places: 0 how many refs were read. */
+uint32_t dehlbazin_read_packed(uint8_t *region, size_t region_len, const uint8_t *text, size_t text_len, uint8_t *answer,
+                               size_t answer_len);
 
 /* ---- the calls of a list that arrives in fragments */
 

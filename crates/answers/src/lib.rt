@@ -76,6 +76,10 @@ impl Answer {
 
     pub const RECEIVER_FULL: u32 = 26;
 
+    pub const MALFORMED_LINE: u32 = 27;
+
+    pub const TEXT_TOO_LONG: u32 = 32;
+
     pub const SHORT_BUFFER: u32 = 33;
 }
 
@@ -186,6 +190,8 @@ impl Verdict {
             Refusal::UnknownVersion => Verdict::bare(Answer::UNKNOWN_VERSION),
             Refusal::NameConflict(n) => named(Answer::NAME_CONFLICT, n),
             Refusal::ReceiverFull => Verdict::bare(Answer::RECEIVER_FULL),
+            Refusal::MalformedLine(line) => Verdict::one(Answer::MALFORMED_LINE, line),
+            Refusal::TextTooLong => Verdict::bare(Answer::TEXT_TOO_LONG),
             Refusal::ShortBuffer => Verdict::bare(Answer::SHORT_BUFFER),
         }
     }

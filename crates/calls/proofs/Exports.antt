@@ -6,22 +6,23 @@ use mathlib.Core.Option.{Option, none, some}
 use Prim.Native.Nat.{ℕ}
 use native.Mathlib.Omega.{arith}
 use lib.ListN.{length}
-use lib.Dec.{eqb}
+use lib.Dec.{eqb, ltb}
 use borrow.Author.Tests.{eq-eqb}
 use Rattle.model.specs.declared.WriteReflog.{WriteReflog}
 use Rattle.model.specs.declared.WriteReflog.the-variants.{Disable}
 use Rattle.model.specs.declared.Refusal.{Refusal}
-use Rattle.model.specs.declared.Refusal.the-variants.{BadRegion, Malformed, NotRegistered, ReferenceCycle, TooManyRows, MultipleEdits, PackedTransactionAcquire, LockAcquire, DeleteReferenceMustExist, MustNotExist, MustExist, ReferenceOutOfDate, DeleteMustNotExist, LogFull, WrongState, BadName, NamesFull, WrongLock, BadLoad, NothingThere, MalformedRecord, UnknownVersion, NameConflict, ReceiverFull, ShortBuffer}
+use Rattle.model.specs.declared.Refusal.the-variants.{BadRegion, Malformed, NotRegistered, ReferenceCycle, TooManyRows, MultipleEdits, PackedTransactionAcquire, LockAcquire, DeleteReferenceMustExist, MustNotExist, MustExist, ReferenceOutOfDate, DeleteMustNotExist, LogFull, WrongState, BadName, NamesFull, WrongLock, BadLoad, NothingThere, MalformedRecord, UnknownVersion, NameConflict, ReceiverFull, MalformedLine, TextTooLong, ShortBuffer}
 use Rattle.model.specs.Store.{Store, Prepared, empty}
 use Rattle.model.specs.Commit.Stop.{noCommitter, usedUp}
-use Rattle.model.specs.Outcome.{Outcome, orRefuse}
+use Rattle.model.specs.Outcome.{Outcome, refuseIf, orRefuse}
 use Rattle.model.specs.Outcome.Outcome.{refuse, pass}
-use Rattle.model.specs.Reply.{Call, Given, Reply, _>>=_}
-use Rattle.model.specs.Reply.Call.{start, addName, nameBytes, loadLoose, loadPacked, placeLock, liftLock, prepare, commit, rollback, readName, readLine, readRow}
+use Rattle.model.specs.Reply.{Call, Given, Reply, _>>=_, _>>_}
+use Rattle.model.specs.Reply.Call.{start, addName, nameBytes, loadLoose, loadPacked, placeLock, liftLock, prepare, commit, rollback, readName, readLine, readRow, writePacked, readPacked}
 use Rattle.model.specs.Reply.Reply.{done, stopped, refused}
-use Rattle.model.specs.Reply.Given.{nothing, number}
+use Rattle.model.specs.Reply.Given.{nothing, number, written}
 use Rattle.model.specs.Load.{settingOf, started}
-use Rattle.model.specs.Calls.{step, rowsPrepared}
+use Rattle.model.specs.PackedText.{packedText}
+use Rattle.model.specs.Calls.{step, rowsPrepared, textWritten}
 use Rattle.model.specs.Prepare.{rowsFor, held as holds}
 use Rattle.model.specs.Numbers.{Answer, answerOf, refusalAnswer}
 use Rattle.answers.specs.declared.Verdict.{Verdict}
@@ -36,9 +37,9 @@ use Rattle.region.specs.Layout.{regionSize}
 use Rattle.region.specs.Region.{image, decode}
 use Rattle.region.proofs.Sized.{length-image}
 use Rattle.region.proofs.Decode.{decoded, decode-image}
-use Rattle.calls.specs.Call.{sized, startFrom, stepOn, replyTo, replyToRecord, replyOr, replyToClosing, regionAfter, Out, outOf, untouched, call, startCall, beside, closeCall, Did}
-use Rattle.calls.specs.Exports.{Determined, BelowDetermined, KeepsDetermined, PartDetermined, Unchanged, StartUnchanged, CloseUnchanged, GotReached, LocksAsBefore}
-use Rattle.calls.specs.Exports.Got.{begun as got·begun, begunWith as got·begunWith, after as got·after, afterWith as got·afterWith, afterClosing as got·afterClosing}
+use Rattle.calls.specs.Call.{sized, startFrom, stepOn, replyTo, replyToRecord, replyOr, replyToClosing, regionAfter, Out, outOf, untouched, call, startCall, beside, closeCall, bufferAfter, replyToWriting, writeCall, Did}
+use Rattle.calls.specs.Exports.{Determined, BelowDetermined, WroteDetermined, KeepsDetermined, PartDetermined, Unchanged, StartUnchanged, CloseUnchanged, WriteUnchanged, GotReached, LocksAsBefore}
+use Rattle.calls.specs.Exports.Got.{begun as got·begun, begunWith as got·begunWith, after as got·after, afterWith as got·afterWith, afterClosing as got·afterClosing, afterWriting as got·afterWriting}
 
 -- ---- determined
 
@@ -55,6 +56,9 @@ one-verdict v v′ e = ap verdict e
 
 pub below-determined : BelowDetermined
 below-determined reply r v v′ r₁ r₂ d e = (one-verdict v v′ (d .answer ∙ sym (e .answer)), d .region ∙ sym (e .region))
+
+pub wrote-determined : WroteDetermined
+wrote-determined r b v v′ b₁ b₂ d e = (one-verdict v v′ (d .answer ∙ sym (e .answer)), d .buffer ∙ sym (e .buffer))
 
 pub keeps-determined : KeepsDetermined
 keeps-determined k v v′ b₁ b₂ d e = (one-verdict v v′ (d .answer ∙ sym (e .answer)), d .buffer ∙ sym (e .buffer))
@@ -91,7 +95,7 @@ decoded-size : (r : List ℕ) (s : Store) → decode r ≡ some s → length r �
 decoded-size r s e = ap length (sym (decoded r s e .1)) ∙ length-image s
 
 -- every call finds the store that is decoded; start does not look at it
-replies-to : (c : Call) (r : List ℕ) (s : Store) → decode r ≡ some s → replyTo c r ≡ step c s
+pub replies-to : (c : Call) (r : List ℕ) (s : Store) → decode r ≡ some s → replyTo c r ≡ step c s
 unfolding replyTo step
 replies-to (start k) r s e = rw (eq-eqb (length r) regionSize (decoded-size r s e))
 replies-to (addName bytes) r s e = rw e
@@ -106,6 +110,8 @@ replies-to rollback r s e = rw e
 replies-to (readName n) r s e = rw e
 replies-to (readLine n place) r s e = rw e
 replies-to (readRow place) r s e = rw e
+replies-to (writePacked room) r s e = rw e
+replies-to (readPacked bytes) r s e = rw e
 
 left-image : (reply : Reply) (r : List ℕ) (s : Store) → r ≡ image s → regionAfter reply r ≡ image (leaves reply s)
 left-image (done t given) r s e = refl
@@ -235,6 +241,8 @@ refusal-number MalformedRecord e = omega arith
 refusal-number UnknownVersion e = omega arith
 refusal-number (NameConflict n) e = omega arith
 refusal-number ReceiverFull e = omega arith
+refusal-number (MalformedLine i) e = omega arith
+refusal-number TextTooLong e = omega arith
 refusal-number ShortBuffer e = omega arith
 
 abbrev Held : List ℕ → Type 0
@@ -322,6 +330,51 @@ closes-on mode r b a n a′ r′ b′ (s, e, reached) d = go (eqb (length a) 128
         ∙ ap (λ (reply : Reply). regionAfter reply r) (replies-to c r s e)
         ∙ left-image (step c s) r s (sym (decoded r s e .1)))
 
+-- ---- writing the packed table's text
+
+-- of two lent buffers, what holds of the list holds of the second
+pub second : (r r′ b b′ : List ℕ) → r ∷ b ∷ [] ≡ r′ ∷ b′ ∷ [] → b ≡ b′
+second r r′ b b′ e = cc
+
+-- the record's size decides
+abbrev writtenBy : Bool → Reply → List ℕ → List ℕ → List ℕ → Out
+unfolding outOf
+writtenBy t reply r b a = cond t (beside (outOf reply r) (bufferAfter reply b)) (untouched a (r ∷ b ∷ []))
+
+-- it comes to a refusal, or to the text of the store that is there
+writing-replies : (P : Reply → Type 0) (b r : List ℕ) → ((x : Refusal) → P (refused x))
+    → ((s : Store) → decode r ≡ some s → P (done s (written (packedText s)))) → P (replyToWriting b r)
+unfolding replyToWriting replyTo step textWritten
+writing-replies P b r f g = go (decode r) refl
+  where
+    wrote : (s : Store) → decode r ≡ some s → (t : Bool) → P (refuseIf t TextTooLong >> done s (written (packedText s)))
+    wrote s e true = f TextTooLong
+    wrote s e false = g s e
+
+    go : (o : Option Store) → decode r ≡ o → P (stepOn (writePacked (length b)) o)
+    go none e = f BadRegion
+    go (some s) e = wrote s e (ltb (length b) (length (packedText s)))
+
+pub write-unchanged : WriteUnchanged
+unfolding writeCall outOf answerOf
+write-unchanged r b a n a′ r′ b′ d =
+    writing-replies (λ (reply : Reply). Stays (eqb (length a) 128) reply) b r (λ x. same (eqb (length a) 128) x) (λ s e. new (eqb (length a) 128) s e) (d .code) (d .lent)
+  where
+    Stays : Bool → Reply → Type 0
+    Stays t reply =
+        n ≡ writtenBy t reply r b a .code → r′ ∷ b′ ∷ [] ≡ writtenBy t reply r b a .lent → (r′ ≡ r) × ((n ≡ 0 → ⊥) → b′ ≡ b)
+
+    same : (t : Bool) (x : Refusal) → Stays t (refused x)
+    same false x e f = (first r′ r b′ b f, λ h. second r′ r b′ b f)
+    same true x e f = (first r′ r b′ b f, λ h. second r′ r b′ b f)
+
+    new : (t : Bool) (s : Store) → decode r ≡ some s → Stays t (done s (written (packedText s)))
+    new false s q e f = (first r′ r b′ b f, λ h. second r′ r b′ b f)
+    new true s q e f = (first r′ (image s) b′ _ f ∙ decoded r s q .1, λ h. absurd (h e))
+
+writes-on : (r b a : List ℕ) (n : ℕ) (a′ r′ b′ : List ℕ) → Held r → Did (writeCall r b a) n a′ (r′ ∷ b′ ∷ []) → Held r′
+writes-on r b a n a′ r′ b′ held d = subst Held (sym (write-unchanged r b a n a′ r′ b′ d .0)) held
+
 -- ---- any calls
 
 pub got-reached : GotReached
@@ -332,6 +385,7 @@ got-reached r (got·after {r = r₀} g c n a a′ _ d) =
 got-reached r (got·afterWith {r = r₀} g bytes n a a′ _ d) =
     let held = got-reached r₀ g in starts-with bytes r₀ a n a′ r d (λ _. held)
 got-reached r (got·afterClosing {r = r₀} g mode n b a a′ _ b′ d) = closes-on mode r₀ b a n a′ r b′ (got-reached r₀ g) d
+got-reached r (got·afterWriting {r = r₀} g n b a a′ _ b′ d) = writes-on r₀ b a n a′ r b′ (got-reached r₀ g) d
 
 -- ---- the lock calls
 

@@ -2,6 +2,7 @@ pub mod Replies
 pub mod Laws
 pub mod Known
 pub mod Exports
+pub mod Texts
 pub mod Answered
 pub mod Ended
 pub mod Stopped

@@ -4,16 +4,17 @@ use mathlib.Core.Bool.{Bool, true, false, cond}
 use mathlib.Core.List.{List, [], _∷_, _++_}
 use mathlib.Core.Option.{Option, none, some}
 use Prim.Native.Nat.{ℕ}
-use lib.ListN.{length, getD}
+use lib.ListN.{length, getD, drop}
 use lib.Dec.{eqb}
 use Rattle.word.specs.Be.{cut}
 use Rattle.model.specs.declared.Refusal.the-variants.{BadRegion}
 use Rattle.model.specs.declared.WriteReflog.{WriteReflog}
 use Rattle.model.specs.declared.WriteReflog.the-variants.{Disable}
 use Rattle.model.specs.Store.{Store, empty}
-use Rattle.model.specs.Reply.{Call, Reply}
-use Rattle.model.specs.Reply.Call.{start, addName, nameBytes, loadLoose, loadPacked, placeLock, liftLock, prepare, commit, rollback, readName, readLine, readRow}
+use Rattle.model.specs.Reply.{Call, Given, Reply}
+use Rattle.model.specs.Reply.Call.{start, addName, nameBytes, loadLoose, loadPacked, placeLock, liftLock, prepare, commit, rollback, readName, readLine, readRow, writePacked, readPacked}
 use Rattle.model.specs.Reply.Reply.{done, stopped, refused}
+use Rattle.model.specs.Reply.Given.{nothing, number, bytesOf, value, line, row, written}
 use Rattle.model.specs.Calls.{step}
 use Rattle.model.specs.Outcome.{Outcome}
 use Rattle.model.specs.Outcome.Outcome.{refuse, pass}
@@ -47,6 +48,8 @@ isStart rollback = false
 isStart (readName n) = false
 isStart (readLine n place) = false
 isStart (readRow place) = false
+isStart (writePacked room) = false
+isStart (readPacked bytes) = false
 
 -- the store that a call finds in a region
 abbrev pub found : Call → List ℕ → Option Store
@@ -120,12 +123,35 @@ call c r a = replied (replyTo c r) r a
 unfoldable pub startCall : List ℕ → List ℕ → List ℕ → Out
 startCall bytes r a = replied (replyToRecord bytes r) r a
 
--- a receiver is lent beside the region, and stands behind it
+-- a receiver, or a buffer, is lent beside the region, and stands behind it
 abbrev pub beside : Out → List ℕ → Out
 beside o b = record { code = o .code; answer = o .answer; lent = o .lent ++ (b ∷ []) }
 
 unfoldable pub closeCall : ℕ → List ℕ → List ℕ → List ℕ → Out
 closeCall mode r b a = recorded (beside (outOf (replyToClosing b mode r) r) (closed b)) (r ∷ b ∷ []) a
+
+-- ---- writing the packed table's text: at the buffer's beginning, and what stands past it stays
+
+abbrev pub textIn : Given → List ℕ
+textIn nothing = []
+textIn (number n) = []
+textIn (bytesOf n) = []
+textIn (value x) = []
+textIn (line l) = []
+textIn (row r x) = []
+textIn (written t) = t
+
+abbrev pub bufferAfter : Reply → List ℕ → List ℕ
+bufferAfter (done s given) b = textIn given ++ drop (length (textIn given)) b
+bufferAfter (stopped why s made) b = b
+bufferAfter (refused x) b = b
+
+-- the buffer's length is all that the call knows of it
+unfoldable pub replyToWriting : List ℕ → List ℕ → Reply
+replyToWriting b r = replyTo (writePacked (length b)) r
+
+unfoldable pub writeCall : List ℕ → List ℕ → List ℕ → Out
+writeCall r b a = recorded (beside (outOf (replyToWriting b r) r) (bufferAfter (replyToWriting b r) b)) (r ∷ b ∷ []) a
 
 -- ---- a call on one buffer that is no region: its answer, and the buffer as it is left
 
@@ -159,6 +185,11 @@ pub record Closed (v : Verdict) (r r′ b b′ : List ℕ) (mode : ℕ) : Type 0
   pub answer : answerBy v ≡ answerOf nameOffset (replyToClosing b mode r)
   pub region : r′ ≡ regionAfter (replyToClosing b mode r) r
   pub receiver : b′ ≡ closed b
+
+-- and below writing the packed table's text, which leaves the region
+pub record Wrote (v : Verdict) (r b b′ : List ℕ) : Type 0 where
+  pub answer : answerBy v ≡ answerOf nameOffset (replyToWriting b r)
+  pub buffer : b′ ≡ bufferAfter (replyToWriting b r) b
 
 -- and below each of those on another buffer
 pub record Keeps (v : Verdict) (b′ : List ℕ) (k : Kept) : Type 0 where

@@ -1,18 +1,19 @@
--- What is proved of every call that keeps the contract `Did (call c r a)`, whatever the call, of start with a settings record and of
--- closing a receiver. Every exported call on a region has one of the three. The proofs stand in proofs/Exports.antt.
+-- What is proved of every call that keeps the contract `Did (call c r a)`, whatever the call, of start with a settings record, of closing a
+-- receiver and of writing the packed table's text. Every exported call on a region has one of the four. The proofs stand in proofs/Exports.antt.
 use mathlib.Core.Path.{_≡_}
 use mathlib.Core.List.{List, [], _∷_}
 use mathlib.Core.Option.{some}
-use Prim.Native.Nat.{ℕ}
-use lib.ListN.{length}
+use Prim.Native.Nat.{ℕ, _≤_, _<_}
+use lib.ListN.{length, take, drop}
 use Rattle.model.specs.Store.{Store}
 use Rattle.model.specs.Reply.{Call, Reply}
-use Rattle.model.specs.Reply.Call.{start, placeLock, liftLock}
+use Rattle.model.specs.Reply.Call.{start, placeLock, liftLock, readPacked}
+use Rattle.model.specs.PackedText.{packedTable, packedText}
 use Rattle.model.specs.Reached.{Reached}
 use Rattle.model.specs.Locks.{placing, lifting, didBefore}
 use Rattle.region.specs.Region.{decode}
 use Rattle.answers.specs.declared.Verdict.{Verdict}
-use Rattle.calls.specs.Call.{Out, outOf, call, startCall, closeCall, Kept, Did, Replied, Keeps, namePart}
+use Rattle.calls.specs.Call.{Out, outOf, call, startCall, closeCall, writeCall, Kept, Wrote, Did, Replied, Keeps, namePart}
 
 -- ---- determined: two results that satisfy the contract of an exported call are equal, whatever it says is to come out
 
@@ -30,6 +31,9 @@ BelowDetermined =
     → Replied v r r₁ reply
     → Replied v′ r r₂ reply
     → (v ≡ v′) × (r₁ ≡ r₂)
+
+abbrev pub WroteDetermined : Type 0
+WroteDetermined = (r b : List ℕ) (v v′ : Verdict) (b₁ b₂ : List ℕ) → Wrote v r b b₁ → Wrote v′ r b b₂ → (v ≡ v′) × (b₁ ≡ b₂)
 
 abbrev pub KeepsDetermined : Type 0
 KeepsDetermined =
@@ -65,7 +69,14 @@ CloseUnchanged =
     → (n ≡ 0 → ⊥)
     → r′ ≡ r
 
--- ---- what is got from any bytes by start, with a setting or with a record, and then any calls, closings among them
+-- a refused writing leaves the buffer, and every writing leaves the region
+abbrev pub WriteUnchanged : Type 0
+WriteUnchanged =
+    (r b a : List ℕ) (n : ℕ) (a′ r′ b′ : List ℕ)
+    → Did (writeCall r b a) n a′ (r′ ∷ b′ ∷ [])
+    → (r′ ≡ r) × ((n ≡ 0 → ⊥) → b′ ≡ b)
+
+-- ---- what is got from any bytes by start, with a setting or with a record, and then any calls, closings and writings among them
 
 -- refused calls and records of any size included
 pub data Got : List ℕ → Type 0 where
@@ -74,10 +85,33 @@ pub data Got : List ℕ → Type 0 where
   after : {r : List ℕ} → Got r → (c : Call) (n : ℕ) (a a′ r′ : List ℕ) → Did (call c r a) n a′ (r′ ∷ []) → Got r′
   afterWith : {r : List ℕ} → Got r → (bytes : List ℕ) (n : ℕ) (a a′ r′ : List ℕ) → Did (startCall bytes r a) n a′ (r′ ∷ []) → Got r′
   afterClosing : {r : List ℕ} → Got r → (mode : ℕ) (n : ℕ) (b a a′ r′ b′ : List ℕ) → Did (closeCall mode r b a) n a′ (r′ ∷ b′ ∷ []) → Got r′
+  afterWriting : {r : List ℕ} → Got r → (n : ℕ) (b a a′ r′ b′ : List ℕ) → Did (writeCall r b a) n a′ (r′ ∷ b′ ∷ []) → Got r′
 
 -- decodes to a reached store
 abbrev pub GotReached : Type 0
 GotReached = (r : List ℕ) → Got r → (s : Store) × (decode r ≡ some s) × Reached s
+
+-- ---- 2026-07: of a good region the text stands at the buffer's beginning, and all past it is as it was. Where it does not fit, it is 32
+
+abbrev pub WritesText : Type 0
+WritesText =
+    (r b a : List ℕ) (s : Store) (n : ℕ) (a′ r′ b′ : List ℕ)
+    → decode r ≡ some s
+    → length a ≡ 128
+    → Did (writeCall r b a) n a′ (r′ ∷ b′ ∷ [])
+    → (length (packedText s) ≤ length b
+    → (n ≡ 0) × (take (length (packedText s)) b′ ≡ packedText s) × (drop (length (packedText s)) b′ ≡ drop (length (packedText s)) b))
+    × (length b < length (packedText s) → (n ≡ 32) × (b′ ≡ b))
+
+-- what a region says in that text, read into any region that gives done, is its packed table then
+abbrev pub ReadsText : Type 0
+ReadsText =
+    (r a : List ℕ) (s : Store) (a′ r′ : List ℕ) (t : Store)
+    → decode r ≡ some s
+    → Reached t
+    → length a ≡ 128
+    → Did (call (readPacked (packedText t)) r a) 0 a′ (r′ ∷ [])
+    → (u : Store) × (decode r′ ≡ some u) × (packedTable u ≡ packedTable t)
 
 -- ---- 2026-05: a caller gets of the two lock calls what the four gave, the number, the record and every byte of the region
 

@@ -9,7 +9,7 @@ use Rattle.model.specs.Outcome.Outcome.{refuse, pass}
 use Rattle.model.specs.Prepare.{rowsFor}
 use Rattle.model.specs.Fine.{Fine}
 use Rattle.model.specs.Reply.{Call}
-use Rattle.model.specs.Reply.Call.{start, addName, nameBytes, loadLoose, loadPacked, placeLock, liftLock, prepare, commit, rollback, readName, readLine, readRow}
+use Rattle.model.specs.Reply.Call.{start, addName, nameBytes, loadLoose, loadPacked, placeLock, liftLock, prepare, commit, rollback, readName, readLine, readRow, writePacked, readPacked}
 use Rattle.model.specs.Calls.{rowsPrepared, step}
 use Rattle.model.specs.Reached.{Sound, leaves}
 use Rattle.model.specs.Reached.Reached.{begun, after}
@@ -19,6 +19,7 @@ use Rattle.model.proofs.Base.{fine-sound}
 use Rattle.model.proofs.KeptSimple.{Rule, ruleFine, ruleSound}
 use Rattle.model.proofs.KeptSimple as simple
 use Rattle.model.proofs.KeptCommit.{commit-kept}
+use Rattle.model.proofs.KeptText.{writePacked-kept, readPacked-kept}
 
 -- one proof for all that obeys the rule, where prepare keeps it
 module _ (P : Store → Type 0) (rule : Rule P) (s : Store) (here : P s) (prepares : (list : List ℕ) (mode : ℕ) → P (leaves (step (prepare list mode) s) s)) where
@@ -36,6 +37,8 @@ module _ (P : Store → Type 0) (rule : Rule P) (s : Store) (here : P s) (prepar
   call-kept (readName n) = simple.readName-kept P rule s here n
   call-kept (readLine n place) = simple.readLine-kept P rule s here n place
   call-kept (readRow place) = simple.readRow-kept P rule s here place
+  call-kept (writePacked room) = writePacked-kept P rule s here room
+  call-kept (readPacked bytes) = readPacked-kept P rule s here bytes
 
 -- of the rules, and of what holds of every reached store: prepare is refused, or leaves a store that is sound
 module _ (P : Store → Type 0) (rule : Rule P) (holds : (s : Store) → Sound s → P s) (s : Store) (here : P s) where

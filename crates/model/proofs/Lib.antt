@@ -24,6 +24,13 @@ pub mod Base
 pub mod Grown
 pub mod KeptSimple
 pub mod KeptCommit
+pub mod NameBytes
+pub mod ByteOrder
+pub mod Digits
+pub mod TextLines
+pub mod TextTable
+pub mod TextStore
+pub mod KeptText
 pub mod Kept
 pub mod Switch
 pub mod Touch
@@ -37,5 +44,6 @@ pub mod Moments
 pub mod Logs
 pub mod Prefixes
 pub mod Demand3
+pub mod Texts
 pub mod Where
 pub mod Locks

@@ -1,4 +1,4 @@
--- Transactions and reads, and the step: the 13 calls as one function.
+-- Transactions, reads and the packed table as text, and the step: the 15 calls as one function.
 use mathlib.Core.Bool.{true, not}
 use mathlib.Core.List.{List}
 use mathlib.Core.Option.{Option, none, some}
@@ -7,18 +7,19 @@ use lib.ListN.{length, getD}
 use lib.Dec.{ltb, leb}
 use Rattle.target.specs.declared.Found.{Found}
 use Rattle.transaction.specs.declared.Edit.{Edit}
-use Rattle.model.specs.declared.Refusal.the-variants.{Malformed, WrongState, NothingThere}
+use Rattle.model.specs.declared.Refusal.the-variants.{Malformed, WrongState, NothingThere, TextTooLong}
 use Rattle.model.specs.Store.{Store, entryOf, linesOf, rowsIn, modeIn, isPrepared, noLine}
 use Rattle.model.specs.Read.{foundOf}
 use Rattle.model.specs.Rows.{rowAt, opens}
 use Rattle.model.specs.Outcome.{refuseIf}
 use Rattle.model.specs.Prepare.{existingFound, rowsFor, held}
 use Rattle.model.specs.Commit.{Run, Stop, committing, released}
-use Rattle.model.specs.Reply.{Call, Reply, _>>=_, _>>_, known}
-use Rattle.model.specs.Reply.Call.{start, addName, nameBytes, loadLoose, loadPacked, placeLock, liftLock, prepare, commit, rollback, readName, readLine, readRow}
+use Rattle.model.specs.Reply.{Call, Reply, _>>=_, _>>_, known, idle}
+use Rattle.model.specs.Reply.Call.{start, addName, nameBytes, loadLoose, loadPacked, placeLock, liftLock, prepare, commit, rollback, readName, readLine, readRow, writePacked, readPacked}
 use Rattle.model.specs.Reply.Reply.{done, stopped}
-use Rattle.model.specs.Reply.Given.{number, value, line, row}
+use Rattle.model.specs.Reply.Given.{number, value, line, row, written}
 use Rattle.model.specs.Load.{started, nameAdded, bytesGiven, looseLoaded, packedLoaded, placed, lifted}
+use Rattle.model.specs.PackedText.{packedText, readText, unpacked, loaded, judged}
 
 -- ---- transactions
 
@@ -66,6 +67,23 @@ rowRead place s = do
   refuseIf (leb (length (rowsIn (s .prepared))) place) NothingThere
   let r : Edit = rowAt (rowsIn (s .prepared)) place in done s (row r (rowFound s r))
 
+-- ---- the packed table as text
+
+-- 32 exactly where the text is longer than the buffer
+unfoldable pub textWritten : ℕ → Store → Reply
+textWritten room s = do
+  refuseIf (ltb room (length (packedText s))) TextTooLong
+  done s (written (packedText s))
+
+-- 15; then the first line at fault decides. The lines before it are loaded first, so that 19 of one of them comes before it. Reading gives
+-- how many refs were read
+unfoldable pub textRead : List ℕ → Store → Reply
+textRead bytes s = do
+  idle s
+  t ← loaded (readText bytes .refs) (unpacked s)
+  judged (readText bytes .end)
+  done t (number (length (readText bytes .refs)))
+
 -- ---- the step
 
 unfoldable pub step : Call → Store → Reply
@@ -82,3 +100,5 @@ step rollback s = rolledBack s
 step (readName n) s = nameRead n s
 step (readLine n place) s = lineRead n place s
 step (readRow place) s = rowRead place s
+step (writePacked room) s = textWritten room s
+step (readPacked bytes) s = textRead bytes s

@@ -24,7 +24,7 @@ use Rattle.model.specs.Commit.{isLine}
 use Rattle.model.specs.Commit.Stop.{noCommitter}
 use Rattle.model.specs.Reply.{Reply, Given}
 use Rattle.model.specs.Reply.Reply.{done, stopped, refused}
-use Rattle.model.specs.Reply.Given.{nothing, number, bytesOf, value, line, row}
+use Rattle.model.specs.Reply.Given.{nothing, number, bytesOf, value, line, row, written}
 use Rattle.model.specs.Reply.Call.{commit}
 use Rattle.model.specs.Calls.{step}
 use Rattle.model.specs.Reached.{Reached, leaves}
@@ -61,6 +61,7 @@ countIn (bytesOf n) = none
 countIn (value x) = none
 countIn (line l) = none
 countIn (row r x) = none
+countIn (written t) = none
 
 abbrev pub reported : Reply → Option ℕ
 reported (done s given) = countIn given

@@ -15,9 +15,11 @@ pub mod Commit
 pub mod Fine
 pub mod Reply
 pub mod Load
+pub mod PackedText
 pub mod Calls
 pub mod Numbers
 pub mod Reached
+pub mod Texts
 pub mod Demand3
 pub mod Kept
 pub mod Where

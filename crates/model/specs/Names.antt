@@ -74,14 +74,18 @@ isComponentByte b = between "A" "Z" b || between "a" "z" b || between "0" "9" b 
 unfoldable pub isComponent : List ℕ → Bool
 isComponent c = not (isEmpty c) && all isComponentByte c && not (under "." c) && not (endsIn ".lock" c)
 
--- the components are what stands between the `/`
+-- what stands between the bytes c
 abbrev pub grow : ℕ → List (List ℕ) → List (List ℕ)
 grow b [] = (b ∷ []) ∷ []
 grow b (c ∷ cs) = (b ∷ c) ∷ cs
 
+abbrev pub pieces : ℕ → List ℕ → List (List ℕ)
+pieces c [] = [] ∷ []
+pieces c (b ∷ bs) = cond (eqb b c) ([] ∷ pieces c bs) (grow b (pieces c bs))
+
+-- the components are what stands between the `/`
 abbrev pub components : List ℕ → List (List ℕ)
-components [] = [] ∷ []
-components (b ∷ bs) = cond (isChar "/" b) ([] ∷ components bs) (grow b (components bs))
+components n = pieces (code "/") n
 
 -- `refs/` and components joined by single `/`; `..` nowhere; no final `.`
 unfoldable pub isRef : List ℕ → Bool

@@ -15,14 +15,14 @@ use Rattle.transaction.specs.declared.Edit.{Edit}
 use Rattle.transaction.specs.Change.{newValue, previousValue, expectedOf, logOf, forceOf, messageOf}
 use Rattle.transaction.specs.Fields.{changeByte, refLogByte, previousByte}
 use Rattle.model.specs.declared.Refusal.{Refusal}
-use Rattle.model.specs.declared.Refusal.the-variants.{BadRegion, Malformed, NotRegistered, ReferenceCycle, TooManyRows, MultipleEdits, PackedTransactionAcquire, LockAcquire, DeleteReferenceMustExist, MustNotExist, MustExist, ReferenceOutOfDate, DeleteMustNotExist, LogFull, WrongState, BadName, NamesFull, WrongLock, BadLoad, NothingThere, MalformedRecord, UnknownVersion, NameConflict, ReceiverFull, ShortBuffer}
+use Rattle.model.specs.declared.Refusal.the-variants.{BadRegion, Malformed, NotRegistered, ReferenceCycle, TooManyRows, MultipleEdits, PackedTransactionAcquire, LockAcquire, DeleteReferenceMustExist, MustNotExist, MustExist, ReferenceOutOfDate, DeleteMustNotExist, LogFull, WrongState, BadName, NamesFull, WrongLock, BadLoad, NothingThere, MalformedRecord, UnknownVersion, NameConflict, ReceiverFull, MalformedLine, TextTooLong, ShortBuffer}
 use Rattle.model.specs.Store.{Store, entryAt}
 use Rattle.model.specs.Rows.{nameIn, changeIn}
 use Rattle.model.specs.Commit.{Stop}
 use Rattle.model.specs.Commit.Stop.{noCommitter, usedUp}
 use Rattle.model.specs.Reply.{Reply, Given}
 use Rattle.model.specs.Reply.Reply.{done, stopped, refused}
-use Rattle.model.specs.Reply.Given.{nothing, number, bytesOf, value, line, row}
+use Rattle.model.specs.Reply.Given.{nothing, number, bytesOf, value, line, row, written}
 
 -- what a caller gets: the number, and the 16 places of the record
 pub record Answer : Type 0 where
@@ -71,6 +71,8 @@ refusalAnswer MalformedRecord = answer 23 []
 refusalAnswer UnknownVersion = answer 24 []
 refusalAnswer (NameConflict n) = answer 25 (n .0 ∷ [])
 refusalAnswer ReceiverFull = answer 26 []
+refusalAnswer (MalformedLine i) = answer 27 (i ∷ [])
+refusalAnswer TextTooLong = answer 32 []
 refusalAnswer ShortBuffer = answer 33 []
 
 abbrev pub stopNumber : Stop → ℕ
@@ -109,6 +111,7 @@ givenPlaces offset s (bytesOf n) = offset n ∷ length (entryAt s n .name) ∷ [
 givenPlaces offset s (value x) = foundPlaces x
 givenPlaces offset s (line l) = l .previous .0 ∷ l .new .0 ∷ l .committer ∷ l .message ∷ []
 givenPlaces offset s (row r x) = rowPlaces r ++ (placeNumber x ∷ [])
+givenPlaces offset s (written t) = length t ∷ []
 
 -- ---- the reply
 

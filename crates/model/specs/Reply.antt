@@ -13,7 +13,7 @@ use Rattle.model.specs.Outcome.{Outcome, refuseIf}
 use Rattle.model.specs.Outcome.Outcome.{refuse, pass}
 use Rattle.model.specs.Commit.{Stop}
 
--- every number is a plain number, every name and list its bytes
+-- every number is a plain number, every name, list and text its bytes. Of the buffer that writePacked fills, how long it is
 pub data Call : Type 0 where
   start : ℕ → Call
   addName : List ℕ → Call
@@ -28,8 +28,11 @@ pub data Call : Type 0 where
   readName : ℕ → Call
   readLine : ℕ → ℕ → Call
   readRow : ℕ → Call
+  writePacked : ℕ → Call
+  readPacked : List ℕ → Call
 
--- what a call gives when it is done: of a name its value and where it was found, of a row also where its existing value was
+-- what a call gives when it is done: of a name its value and where it was found, of a row also where its existing
+-- value was, of the packed table its text
 pub data Given : Type 0 where
   nothing : Given
   number : ℕ → Given
@@ -37,6 +40,7 @@ pub data Given : Type 0 where
   value : Found → Given
   line : Line → Given
   row : Edit → Found → Given
+  written : List ℕ → Given
 
 -- done, with the new store; stopped (16 or 17), with the new store and the writes made; or refused
 pub data Reply : Type 0 where

@@ -100,6 +100,8 @@ pub enum Refusal {
     UnknownVersion,
     NameConflict(NameNumber),
     ReceiverFull,
+    MalformedLine(u64),
+    TextTooLong,
     ShortBuffer,
 }
 

@@ -38,3 +38,7 @@ module _ (p : ℕ → Bool) (v : Bool) (but : ℕ) where
 
   pub in-run : (lo hi : ℕ) → run lo (hi - lo) ≡ true → (b : ℕ) → lo ≤ b → b < hi → (b ≡ but → ⊥) → v ≡ p b
   in-run lo hi h b l u d = inside (hi - lo) lo h b l (omega arith) d
+
+-- a run with no exception: the byte past its end is none of it
+pub in-whole-run : (p : ℕ → Bool) (v : Bool) (lo hi : ℕ) → run p v hi lo (hi - lo) ≡ true → (b : ℕ) → lo ≤ b → b < hi → v ≡ p b
+in-whole-run p v lo hi h b l u = in-run p v hi lo hi h b l u (λ e. omega arith)

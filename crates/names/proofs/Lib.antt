@@ -1,5 +1,6 @@
 pub mod Bytes
 pub mod Classes
+pub mod Pieces
 pub mod Components
 pub mod Syntax
 pub mod Prefixes

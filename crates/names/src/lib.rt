@@ -9,7 +9,7 @@ ghost use mathlib.Core.Path.{_≡_};
 ghost use Rattle.model.specs.Basic.{all};
 ghost use Rattle.model.specs.Names.{isUpper, isSpecial, isComponentByte, isComponent};
 ghost use Rattle.model.specs.Names.{components, isRef, isName, packable, logs};
-ghost use Rattle.names.specs.Parts.{toSlash, isByteOf};
+ghost use Rattle.names.specs.Parts.{isByteOf};
 
 // A byte of a special name after its first: A to Z and `_`.
 fn is_upper(byte: u8) -> bool
@@ -86,27 +86,13 @@ fn is_component(part: &[u8]) -> bool
     !spelling::ends_with(part, b".lock")
 }
 
-// How many bytes the first component has: up to the first `/`, or all.
-fn component_length(bytes: &[u8]) -> usize
-    ensures { λ r. ⌜ r ≡ toSlash (now (bytes .entry)) ⌝ }
-{
-    let mut i: usize = 0;
-    while i < bytes.len() {
-        if bytes[i] == b'/' {
-            return i;
-        }
-        i += 1;
-    }
-    i
-}
-
 // What stands between the `/` are components, each of them.
 fn are_components(bytes: &[u8]) -> bool
     ensures { λ r. ⌜ r ≡ all isComponent (components (now (bytes .entry))) ⌝ }
 {
     let mut rest = bytes;
     loop {
-        let n = component_length(rest);
+        let n = spelling::up_to(rest, b'/');
         if !is_component(&rest[..n]) {
             return false;
         }

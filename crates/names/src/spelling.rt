@@ -1,8 +1,9 @@
 // Byte strings compared: one begins or ends another, stands in it, or stands before it in order.
-// Every answer is that of a definition of crates/model/specs/Names.antt, or of specs/Ends.antt.
+// Every answer is that of a definition of crates/model/specs/Names.antt, or of specs/.
 ghost use mathlib.Core.Path.{_≡_};
 ghost use Rattle.model.specs.Names.{begins, within, beneath, before};
 ghost use Rattle.names.specs.Ends.{ends};
+ghost use Rattle.names.specs.Parts.{upTo};
 
 // The name begins with the prefix.
 pub fn begins_with(name: &[u8], prefix: &[u8]) -> bool
@@ -46,6 +47,20 @@ pub fn contains(name: &[u8], part: &[u8]) -> bool
         }
         i += 1;
     }
+}
+
+// How many bytes stand before the first such byte, or in all where there is none.
+pub fn up_to(bytes: &[u8], byte: u8) -> usize
+    ensures { λ r. ⌜ r ≡ upTo byte (now (bytes .entry)) ⌝ }
+{
+    let mut i: usize = 0;
+    while i < bytes.len() {
+        if bytes[i] == byte {
+            return i;
+        }
+        i += 1;
+    }
+    i
 }
 
 // The name begins with the other and a `/`. Lengths and the `/` are asked first: as a rule they tell, and no byte more is compared.

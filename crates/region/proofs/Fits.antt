@@ -1,14 +1,13 @@
 -- What a store must be for its bytes to hold it: each part fits its slot. A store that obeys the rules is such a one. Assumes nothing.
-use mathlib.Core.Path.{_≡_, refl, subst}
-use mathlib.Core.Bool.{Bool, true, false, _&&_, _||_, not, cond}
+use mathlib.Core.Path.{_≡_, refl}
+use mathlib.Core.Bool.{Bool, true, false, not}
 use mathlib.Core.List.{List, [], _∷_}
 use Prim.Native.Nat.{ℕ, _^_, _≤_, _<_}
-use Prim.Native.Char.{Char, code}
 use native.Mathlib.Nat.{le-trans}
 use native.Mathlib.Omega.{arith}
-use lib.ListN.{length, getD, drop, List·getD-eq-default}
-use lib.Dec.{eqb, ltb, leb, lit≤, lit<}
-use borrow.Author.Tests.{eqb-true, leb-true, ltb-true, ltb-false, not-true}
+use lib.ListN.{length, getD, List·getD-eq-default}
+use lib.Dec.{ltb, lit≤}
+use borrow.Author.Tests.{ltb-true, ltb-false, not-true}
 use Rattle.word.specs.Be.{Bytes}
 use Rattle.word.specs.Be.Bytes.{none as noBytes, more}
 use Rattle.word.specs.Text.{FineText}
@@ -28,12 +27,13 @@ use Rattle.model.specs.declared.Loose.the-variants as loose
 use Rattle.model.specs.declared.Packed.{Packed}
 use Rattle.model.specs.declared.Packed.the-variants as packed
 use Rattle.model.specs.declared.Line.{Line}
-use Rattle.model.specs.Basic.{text, all, isEmpty}
-use Rattle.model.specs.Names.{isName, isSpecial, isRef, isComponent, isComponentByte, isUpper, between, isChar, begins, under, components, grow, endsIn, holds}
+use Rattle.model.specs.Names.{isName}
 use Rattle.model.specs.Store.{Store, Entry, noEntry, count, entryAt, entryOf, noLine, rowsIn, isId}
 use Rattle.model.specs.Read.{packedSeen, foundIn, valueOf}
 use Rattle.model.specs.Rows.{rowAt, nameIn, changeIn}
 use Rattle.model.specs.Fine.{Fine, entryTests, lineTests, rowTests, fineTarget, fineOption, fineLoose, finePacked, fineEntry, fineLine, fineParent, fineRow}
+use Rattle.model.proofs.Places.{Each}
+use Rattle.model.proofs.NameBytes.{NameByte, Named, is-named}
 use Rattle.slots.specs.Values.{FitsTarget, FitsLoose, FitsPacked, FitsLine}
 use Rattle.slots.specs.Row.{FitsRow, FitsOption, FitsParent}
 
@@ -47,103 +47,15 @@ pub record FitsStore (s : Store) : Type 0 where
 
 -- ---- the bytes of a name
 
-either : {P : Type 0} (a b : Bool) → a || b ≡ true → (a ≡ true → P) → (b ≡ true → P) → P
-either true b e f g = f refl
-either false b e f g = g e
-
--- below a character's code, which is below 256
-ranged : (a z : Char) (b : ℕ) → code z < 256 → between a z b ≡ true → b < 256
-ranged a z b h e = let l : b ≤ code z = leb-true b (code z) (both-true (leb (code a) b) _ e .1) in omega arith
-
-single : (c : Char) (b : ℕ) → code c < 256 → isChar c b ≡ true → b < 256
-single c b h e = let l : b ≡ code c = eqb-true b (code c) e in omega arith
-
-upper-byte : (b : ℕ) → isUpper b ≡ true → b < 256
-upper-byte b e = either (between "A" "Z" b) (isChar "_" b) e (ranged "A" "Z" b (lit< tt)) (single "_" b (lit< tt))
-
-component-byte : (b : ℕ) → isComponentByte b ≡ true → b < 256
-component-byte b e =
-    either _ _ e
-    (λ e. either _ _ e
-    (λ e. either _ _ e
-    (λ e. either _ _ e
-    (λ e. either _ _ e (ranged "A" "Z" b (lit< tt)) (ranged "a" "z" b (lit< tt)))
-    (ranged "0" "9" b (lit< tt)))
-    (single "-" b (lit< tt)))
-    (single "_" b (lit< tt)))
-    (single "." b (lit< tt))
-
-all-bytes : (p : ℕ → Bool) → ((b : ℕ) → p b ≡ true → b < 256) → (xs : List ℕ) → all p xs ≡ true → Bytes xs
-all-bytes p f [] e = noBytes
-all-bytes p f (x ∷ xs) e =
-    let b : (p x ≡ true) × (all p xs ≡ true) = both-true (p x) (all p xs) e in more (f x (b .0)) (all-bytes p f xs (b .1))
-
-special-bytes : (n : List ℕ) → isSpecial n ≡ true → Bytes n
-unfolding isSpecial
-special-bytes [] e = noBytes
-special-bytes (b ∷ bs) e =
-    let h : (between "A" "Z" b ≡ true) × (all isUpper bs ≡ true) = both-true (between "A" "Z" b) (all isUpper bs) e in
-    more (ranged "A" "Z" b (lit< tt) (h .0)) (all-bytes isUpper upper-byte bs (h .1))
-
--- what a prefix begins is of bytes where the rest is
-begun-bytes : (p n : List ℕ) → begins p n ≡ true → Bytes p → Bytes (drop (length p) n) → Bytes n
-begun-bytes [] n e b t = t
-begun-bytes (x ∷ p) [] e b t = noBytes
-begun-bytes (x ∷ p) (y ∷ n) e (more h b) t =
-    let q : (eqb x y ≡ true) × (begins p n ≡ true) = both-true (eqb x y) (begins p n) e in
-    more (subst (λ (k : ℕ). k < 256) (eqb-true x y (q .0)) h) (begun-bytes p n (q .1) b t)
-
-component-bytes : (c : List ℕ) → isComponent c ≡ true → all isComponentByte c ≡ true
-unfolding isComponent
-component-bytes c e =
-    let a : ((not (isEmpty c) && all isComponentByte c) && not (under "." c) ≡ true) × (not (endsIn ".lock" c) ≡ true) = both-true _ _ e in
-    let b : ((not (isEmpty c) && all isComponentByte c) ≡ true) × (not (under "." c) ≡ true) = both-true _ _ (a .0) in
-    both-true (not (isEmpty c)) _ (b .0) .1
-
-each-component : (cs : List (List ℕ)) → all isComponent cs ≡ true → all (all isComponentByte) cs ≡ true
-each-component [] e = refl
-each-component (c ∷ cs) e =
-    let h : (isComponent c ≡ true) × (all isComponent cs ≡ true) = both-true (isComponent c) (all isComponent cs) e in
-    rw (component-bytes c (h .0)) (each-component cs (h .1))
-
-grown : (b : ℕ) (cs : List (List ℕ)) → all (all isComponentByte) (grow b cs) ≡ true
-    → (isComponentByte b ≡ true) × (all (all isComponentByte) cs ≡ true)
-grown b [] e = (both-true _ _ (both-true _ _ e .0) .0, refl)
-grown b (c ∷ cs) e =
-    let h : ((isComponentByte b && all isComponentByte c) ≡ true) × (all (all isComponentByte) cs ≡ true) = both-true _ _ e in
-    let k : (isComponentByte b ≡ true) × (all isComponentByte c ≡ true) = both-true _ _ (h .0) in
-    (k .0, rw (k .1) (h .1))
-
-joined-bytes : (n : List ℕ) → all (all isComponentByte) (components n) ≡ true → Bytes n
-joined-bytes [] e = noBytes
-joined-bytes (b ∷ bs) e = go (joined-bytes bs) (isChar "/" b) refl e
-  where
-    go : (all (all isComponentByte) (components bs) ≡ true → Bytes bs) → (t : Bool) → isChar "/" b ≡ t → all (all isComponentByte) (cond t ([] ∷ components bs) (grow b (components bs))) ≡ true
-        → Bytes (b ∷ bs)
-    go f true p e = more (single "/" b (lit< tt) p) (f e)
-    go f false p e =
-        let h : (isComponentByte b ≡ true) × (all (all isComponentByte) (components bs) ≡ true) = grown b (components bs) e in
-        more (component-byte b (h .0)) (f (h .1))
-
-prefix-bytes : Bytes (text "refs/")
-prefix-bytes = more (lit< tt) (more (lit< tt) (more (lit< tt) (more (lit< tt) (more (lit< tt) noBytes))))
-
-ref-bytes : (n : List ℕ) → isRef n ≡ true → Bytes n
-unfolding isRef
-ref-bytes n e =
-    let a : (under "refs/" n && all isComponent (components (drop 5 n)) && not (holds ".." n) ≡ true) × (not (endsIn "." n) ≡ true) = both-true _ _ e in
-    let b : (under "refs/" n && all isComponent (components (drop 5 n)) ≡ true) × (not (holds ".." n) ≡ true) = both-true _ _ (a .0) in
-    let h : (under "refs/" n ≡ true) × (all isComponent (components (drop 5 n)) ≡ true) = both-true _ _ (b .0) in
-    begun-bytes (text "refs/") n (h .0) prefix-bytes (joined-bytes (drop 5 n) (each-component (components (drop 5 n)) (h .1)))
+name-bytes : (n : List ℕ) → Each NameByte n → Bytes n
+name-bytes [] h = noBytes
+name-bytes (b ∷ bs) h =
+    let l : b ≤ 122 = h .0 .1 in
+    let k : b < 256 = omega arith in
+    more k (name-bytes bs (h .1))
 
 name-fits : (n : List ℕ) → isName n ≡ true → FineText 64 n
-unfolding isName
-name-fits n e =
-    let h : ((leb 1 (length n) && leb (length n) 64) ≡ true) × ((isSpecial n || isRef n) ≡ true) = both-true _ _ e in
-    record {
-      short = leb-true (length n) 64 (both-true (leb 1 (length n)) _ (h .0) .1);
-      bytes = either (isSpecial n) (isRef n) (h .1) (special-bytes n) (ref-bytes n);
-    }
+name-fits n e = let h : Named n = is-named n e in record { short = h .short; bytes = name-bytes n (h .bytes) }
 
 -- ---- values: a link's number is below the count of names
 

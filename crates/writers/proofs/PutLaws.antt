@@ -1,31 +1,34 @@
 -- What accessors that write rest on: the changed store fits its bytes, and the region with the bytes written is its image.
 -- Assumes nothing.
-use mathlib.Core.Path.{_≡_, ap, ap₂, _∙_}
-use mathlib.Core.List.{List, [], _∷_, _++_}
+use mathlib.Core.Path.{_≡_, refl, sym, ap, ap₂, subst, _∙_}
+use mathlib.Core.List.{List, [], _∷_, _++_, map}
 use Prim.Native.Nat.{ℕ, zero, suc, _+_, _-_, _*_, _≤_, _<_}
 use native.Mathlib.Nat.{le-trans, le-of-eq}
 use native.Mathlib.Omega.{arith}
-use lib.ListN.{length, getD, set, replicate, length-append}
+use lib.ListN.{length, getD, set, replicate, length-append, length-map}
 use mir.Syntax.{w8}
 use mir.Val.{Fits}
-use Rattle.word.specs.Be.{be}
+use Rattle.word.specs.Be.{be, cut}
 use Rattle.word.specs.Cut.{put}
 use Rattle.word.specs.Text.{FineText}
 use Rattle.word.proofs.Be.{bytes-all}
+use Rattle.word.proofs.Cut.{length-cut}
 use Rattle.word.proofs.Parts.{width}
 use Rattle.model.specs.declared.Loose.{Loose}
 use Rattle.model.specs.declared.Packed.{Packed}
+use Rattle.model.specs.declared.Packed.the-variants as packed
 use Rattle.model.specs.declared.Lock.{Lock}
 use Rattle.model.specs.declared.WriteReflog.{WriteReflog}
 use Rattle.model.specs.Store.{Store, Entry, noEntry, empty, count, entryAt, lockByte, putLoose, putPacked, putLock, changeAt, changeEntry, withEntries, withPackedLock}
 use Rattle.model.specs.Load.{newEntry}
+use Rattle.model.specs.PackedText.{unpacked}
 use Rattle.model.proofs.All.{at-append}
-use Rattle.model.proofs.Base.{changed-count, changed-at}
+use Rattle.model.proofs.Base.{changed-count, changed-at, mapped-at}
 use Rattle.slots.specs.Values.{FitsLoose, FitsPacked, looseForm, packedForm, lockForm}
 use Rattle.region.specs.Region.{image, view, settingByte, Laid, Became}
 use Rattle.region.proofs.Fits.{FitsStore}
 use Rattle.region.proofs.Decode.{laid-image, became}
-use Rattle.writers.proofs.Write.{write-loose, write-packed, write-lock, write-packed-lock, write-name, write-empty}
+use Rattle.writers.proofs.Write.{write-loose, write-packed, write-lock, write-packed-lock, write-name, forget-packed, write-empty}
 
 -- ---- the changed store fits
 
@@ -106,6 +109,26 @@ add-name-is r r′ b name n l h g t e p q =
     (laid-image r l .0) e
     ∙ write-name (view r) name h g)
     (fits-name (view r) name (laid-image r l .1) h (record { short = g; bytes = bytes-all name (λ i. t i .fits) }))
+
+-- ---- no packed value
+
+fits-cleared : (s : Store) → FitsStore s → FitsStore (unpacked s)
+unfolding unpacked
+fits-cleared s f =
+    let e : length (map (putPacked packed.None) (s .entries)) ≡ count s = length-map (s .entries) _ in
+    fits-entries s (map (putPacked packed.None) (s .entries)) f (le-trans (le-of-eq e) (f .names))
+    (λ i k. subst FitsEntry (sym (mapped-at (putPacked packed.None) refl i (s .entries))) (kept i (f .entry i (le-trans k (le-of-eq e)))))
+  where
+    kept : (i : ℕ) → FitsEntry (entryAt s i) → FitsEntry (putPacked packed.None (entryAt s i))
+    kept i g = (g .0, g .1, tt)
+
+pub forget-packed-is : (r z : List ℕ) → Laid r → z ≡ replicate (length (cut 18957 2048 r)) 0 → Became (put 18957 2048 r z) (unpacked (view r))
+forget-packed-is r z l e =
+    let s : length r ≡ 49549 = l .size in
+    let m : length (cut 18957 2048 r) ≡ 2048 = length-cut 18957 2048 r (omega arith) in
+    became (put 18957 2048 r z) (unpacked (view r))
+    (ap₂ (λ (r z : List ℕ). put 18957 2048 r z) (laid-image r l .0) e ∙ forget-packed (view r) (length (cut 18957 2048 r)) m)
+    (fits-cleared (view r) (laid-image r l .1))
 
 -- ---- a new region
 

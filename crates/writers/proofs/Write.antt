@@ -2,10 +2,10 @@
 use mathlib.Core.Path.{_≡_, refl, sym, ap, ap₂, _∙_}
 use mathlib.Core.List.{List, [], _∷_, _++_, map}
 use mathlib.Core.Option.{none}
-use Prim.Native.Nat.{ℕ, suc, _+_, _*_, _≤_, _<_}
+use Prim.Native.Nat.{ℕ, zero, suc, _+_, _*_, _≤_, _<_}
 use native.Mathlib.Nat.{mul-one, le-trans}
 use native.Mathlib.Omega.{arith}
-use lib.ListN.{length, getD, set, replicate, length-set, length-append}
+use lib.ListN.{length, getD, set, replicate, length-set, length-append, length-map}
 use lib.Dec.{lit<}
 use Rattle.word.specs.Be.{cut, be, beOn}
 use Rattle.word.specs.Cut.{put, flat}
@@ -19,11 +19,13 @@ use Rattle.word.proofs.Codec.{slot-room}
 use Rattle.word.proofs.Text.{length-text}
 use Rattle.model.specs.declared.Loose.{Loose}
 use Rattle.model.specs.declared.Packed.{Packed}
+use Rattle.model.specs.declared.Packed.the-variants as packed
 use Rattle.model.specs.declared.Lock.{Lock}
 use Rattle.model.specs.declared.WriteReflog.{WriteReflog}
 use Rattle.model.specs.Store.{Store, Entry, noEntry, empty, count, lockByte, putLoose, putPacked, putLock, changeAt, changeEntry, withEntries}
 use Rattle.model.specs.Store.{withPackedLock, withPrepared}
 use Rattle.model.specs.Load.{newEntry}
+use Rattle.model.specs.PackedText.{unpacked}
 use Rattle.slots.specs.Values.{looseForm, packedForm, lockForm, lineForm}
 use Rattle.slots.specs.Row.{rowForm}
 use Rattle.region.specs.Layout.{sizes}
@@ -78,15 +80,19 @@ held-is : (s : Store) (es : List Entry) → held s (length es) es ≡ sections (
 unfolding framed sections names looses packeds locks
 held-is s es = refl
 
--- the sections once entry n is y, by what stands in the columns
+-- the sections of as many other entries, by what stands in the columns
+became-as : (s : Store) (es : List Entry) → count s ≡ length es → (a b c d : List ℕ)
+    → a ≡ names es → b ≡ looses es → c ≡ packeds es → d ≡ locks es → framed s (count s) a b c d ≡ sections (withEntries s es)
+became-as s es m a b c d e f g i =
+    let j : framed s (count s) a b c d ≡ held s (length es) es = cc in
+    j ∙ held-is s es
+
+-- and once entry n is y
 became : (s : Store) (n : ℕ) (y : Entry) (a b c d : List ℕ)
     → a ≡ names (set (s .entries) n y) → b ≡ looses (set (s .entries) n y)
     → c ≡ packeds (set (s .entries) n y) → d ≡ locks (set (s .entries) n y)
     → framed s (count s) a b c d ≡ sections (withEntries s (set (s .entries) n y))
-became s n y a b c d e f g i =
-    let m : count s ≡ length (set (s .entries) n y) = sym (length-set (s .entries) n y) in
-    let j : framed s (count s) a b c d ≡ held s (length (set (s .entries) n y)) (set (s .entries) n y) = cc in
-    j ∙ held-is s (set (s .entries) n y)
+became s n y = became-as s (set (s .entries) n y) (sym (length-set (s .entries) n y))
 
 -- ---- one value of an entry written
 
@@ -214,6 +220,50 @@ write-name s name h g =
     ∙ in-count s more (count s) (count s + 1)
     ∙ ap (λ (m : ℕ). flat (held s m more)) (sym (length-append es (newEntry name ∷ [])))
     ∙ ap flat (held-is s more)
+
+-- ---- no packed value any more
+
+-- a table of elements changed in what it does not hold, and one of elements whose forms are zeros
+table-mapped : {A : Type 0} (w : ℕ) (enc : A → List ℕ) (f : A → A) → ((x : A) → enc (f x) ≡ enc x) → (c : ℕ) (xs : List A)
+    → table c enc w (map f xs) ≡ table c enc w xs
+unfolding table
+table-mapped w enc f e zero xs = refl
+table-mapped w enc f e (suc c) [] = refl
+table-mapped w enc f e (suc c) (x ∷ xs) = ap₂ (λ (l m : List ℕ). l ++ m) (e x) (table-mapped w enc f e c xs)
+
+table-cleared : {A : Type 0} (w : ℕ) (enc : A → List ℕ) (f : A → A) → ((x : A) → enc (f x) ≡ replicate w 0) → (c : ℕ) (xs : List A)
+    → table c enc w (map f xs) ≡ table c enc w []
+unfolding table
+table-cleared w enc f e zero xs = refl
+table-cleared w enc f e (suc c) [] = refl
+table-cleared w enc f e (suc c) (x ∷ xs) = ap₂ (λ (l m : List ℕ). l ++ m) (e x) (table-cleared w enc f e c xs)
+
+no-packed : packedForm packed.None ≡ replicate 8 0
+unfolding packedForm fields be beOn
+no-packed = refl
+
+module _ (s : Store) where
+  cleared : List Entry
+  cleared = map (putPacked packed.None) (s .entries)
+
+  clears : (z : List ℕ) → z ≡ packeds cleared → put 18957 2048 (image s) z ≡ image (unpacked s)
+  unfolding image sections framed names looses packeds locks cleared unpacked
+  clears z e =
+      put-whole (sections s) sizes (sized s) 10 z (lit< tt)
+      ∙ ap flat
+      (became-as s cleared (sym (length-map (s .entries) _)) (names (s .entries)) (looses (s .entries)) z (locks (s .entries))
+      (sym (table-mapped 65 (λ (e : Entry). encText 64 (e .name)) (putPacked packed.None) (λ x. refl) 256 (s .entries)))
+      (sym (table-mapped 9 (λ (e : Entry). looseForm (e .loose)) (putPacked packed.None) (λ x. refl) 256 (s .entries)))
+      e
+      (sym (table-mapped 1 (λ (e : Entry). lockForm (e .lock)) (putPacked packed.None) (λ x. refl) 256 (s .entries))))
+
+  pub forget-packed : (n : ℕ) → n ≡ 2048 → put 18957 2048 (image s) (replicate n 0) ≡ image (unpacked s)
+  unfolding packeds cleared
+  forget-packed n f =
+      clears (replicate n 0)
+      (ap (λ (i : ℕ). replicate i 0) f
+      ∙ sym (drop-all 256 (λ (e : Entry). packedForm (e .packed)) 8)
+      ∙ sym (table-cleared 8 (λ (e : Entry). packedForm (e .packed)) (putPacked packed.None) (λ x. no-packed) 256 (s .entries)))
 
 -- ---- nothing prepared any more
 

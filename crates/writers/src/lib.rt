@@ -10,6 +10,7 @@ ghost use Rattle.model.specs.Basic.{select};
 ghost use Rattle.model.specs.Store.{count, rowsIn, isPrepared, isOf, empty, putLoose, putPacked, putLock, changeEntry, withEntries};
 ghost use Rattle.model.specs.Store.{withLines, withPackedLock, withPrepared, withRows};
 ghost use Rattle.model.specs.Load.{newEntry};
+ghost use Rattle.model.specs.PackedText.{unpacked};
 ghost use Rattle.slots.specs.Values.{FitsLoose, FitsPacked, FitsLine};
 ghost use Rattle.slots.specs.Row.{FitsRow};
 ghost use Rattle.region.specs.Layout.{regionSize};
@@ -65,6 +66,16 @@ pub fn put_packed_lock(region: &mut [u8], v: Lock)
 {
     let byte = slots::lock_byte(v);
     word::put_at(region, Layout::PACKED_LOCK, 1, byte);
+}
+
+// No name has a packed value any more.
+pub fn forget_packed(region: &mut [u8])
+    requires { ⌜ Laid (now region) ⌝ }
+    ensures { λ _. ⌜ Became (now (region .exit)) (unpacked (view (now (region .entry)))) ⌝ }
+{
+    let a = Layout::PACKEDS;
+    let e = Layout::LOCKS;
+    word::put_zeros(&mut region[a..e]);
 }
 
 // A name more, with no value and a free lock.

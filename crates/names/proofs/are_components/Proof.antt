@@ -5,7 +5,8 @@ use native.Mathlib.Omega.{arith}
 use Prim.Native.Nat.{_≤_}
 use Rattle.model.specs.Basic.{all}
 use Rattle.model.specs.Names.{isComponent, components}
-use Rattle.names.proofs.Components.{slash-within, parts-first, parts-left, parts-less, parts-short, parts-stop, parts-end, parts-more}
+use Rattle.names.proofs.Components.{parts-stop, parts-end, parts-more}
+use Rattle.names.proofs.Pieces.{byte-within, parts-first, parts-left, parts-less, parts-short}
 use Rattle.names.proofs.are_components.Statement.{statement}
 use Rattle.names.proofs.are_components.Tie as tie
 
@@ -18,8 +19,8 @@ abbrev μ-loop : tie.MeasureT-loop
 loop-holds : tie.Need-loop-holds Inv-loop μ-loop
 loop-holds c = (omega arith, refl)
 
-component-length-requires : tie.Need-component-length-requires Inv-loop μ-loop
-component-length-requires c κs = search needs
+up-to-requires : tie.Need-up-to-requires Inv-loop μ-loop
+up-to-requires c κs = search needs
 
 slice-aggregate-is-component : tie.Need-slice-aggregate-is-component Inv-loop μ-loop
 slice-aggregate-is-component c = search parts-first
@@ -34,7 +35,7 @@ returns-2 : tie.Need-returns-2 Inv-loop μ-loop
 returns-2 c = search parts-end
 
 add-rest : tie.Need-add-rest Inv-loop μ-loop
-add-rest c = omega (arith, slash-within (c .before .before .before .before .before .loop .rest .now))
+add-rest c = omega (arith, byte-within 47 (c .before .before .before .before .before .loop .rest .now))
 
 sub-rest : tie.Need-sub-rest Inv-loop μ-loop
 sub-rest c = search parts-left
@@ -58,7 +59,7 @@ are-components-spec =
     Inv-loop
     μ-loop
     loop-holds
-    component-length-requires
+    up-to-requires
     slice-aggregate-is-component
     is-component-requires
     returns

@@ -155,11 +155,23 @@ enum-told-15 c = search needs
 bare-requires-15 : tie.Need-bare-requires-15
 bare-requires-15 c κs = search needs
 
+enum-known-refusal-10 : tie.Need-enum-known-refusal-10
+enum-known-refusal-10 c = search needs
+
+one-requires-2 : tie.Need-one-requires-2
+one-requires-2 c κs = search needs
+
 enum-told-16 : tie.Need-enum-told-16
 enum-told-16 c = search needs
 
 bare-requires-16 : tie.Need-bare-requires-16
 bare-requires-16 c κs = search needs
+
+enum-told-17 : tie.Need-enum-told-17
+enum-told-17 c = search needs
+
+bare-requires-17 : tie.Need-bare-requires-17
+bare-requires-17 c κs = search needs
 
 returns : tie.Need-returns
 unfolding refusalAnswer
@@ -259,7 +271,15 @@ returns-24 c = told _ _ _ (c .before .enum-told15 .given .1) (c .bare15 .ensures
 
 returns-25 : tie.Need-returns-25
 unfolding refusalAnswer
-returns-25 c = told _ _ _ (c .before .enum-told16 .given .1) (c .bare16 .ensures)
+returns-25 c = told _ _ _ (c .before .before .refusal10 .given .1) (c .one2 .ensures)
+
+returns-26 : tie.Need-returns-26
+unfolding refusalAnswer
+returns-26 c = told _ _ _ (c .before .enum-told16 .given .1) (c .bare16 .ensures)
+
+returns-27 : tie.Need-returns-27
+unfolding refusalAnswer
+returns-27 c = told _ _ _ (c .before .enum-told17 .given .1) (c .bare17 .ensures)
 
 pub refusal-spec : {M : Type 1} → statement M
 refusal-spec =
@@ -313,8 +333,12 @@ refusal-spec =
     named-requires-5
     enum-told-15
     bare-requires-15
+    enum-known-refusal-10
+    one-requires-2
     enum-told-16
     bare-requires-16
+    enum-told-17
+    bare-requires-17
     returns
     returns-2
     returns-3
@@ -339,4 +363,6 @@ refusal-spec =
     returns-22
     returns-23
     returns-24
-    returns-25)
+    returns-25
+    returns-26
+    returns-27)

@@ -1,0 +1,88 @@
+-- What specs/Exports.antt states of the packed table's text in a caller's hands, proved. Assumes nothing.
+use mathlib.Core.Path.{_≡_, refl, sym, ap, subst, _∙_}
+use mathlib.Core.Bool.{true, false}
+use mathlib.Core.List.{List, [], _∷_, _++_}
+use mathlib.Core.Option.{some}
+use Prim.Native.Nat.{ℕ, _≤_, _<_}
+use native.Mathlib.Omega.{arith}
+use lib.ListN.{length, take, drop}
+use lib.Seq.{take-append-seam, drop-append-seam}
+use borrow.Author.Tests.{eq-eqb, lt-ltb, le-ltb}
+use Rattle.model.specs.declared.Refusal.the-variants.{TextTooLong}
+use Rattle.model.specs.Store.{Store}
+use Rattle.model.specs.Commit.Stop.{noCommitter, usedUp}
+use Rattle.model.specs.Reply.{Reply, Given}
+use Rattle.model.specs.Reply.Call.{writePacked, readPacked}
+use Rattle.model.specs.Reply.Reply.{done, stopped, refused}
+use Rattle.model.specs.Reply.Given.{written}
+use Rattle.model.specs.PackedText.{packedTable, packedText}
+use Rattle.model.specs.Calls.{step, textWritten}
+use Rattle.model.specs.Numbers.{answerOf, refusalAnswer}
+use Rattle.model.specs.Fine.{Fine}
+use Rattle.model.specs.Reached.{Reached, leaves}
+use Rattle.model.proofs.Kept.{kept}
+use Rattle.model.proofs.Texts.{same-table}
+use Rattle.region.specs.Region.{image, decode}
+use Rattle.region.proofs.Decode.{decoded, decode-image}
+use Rattle.calls.specs.Call.{Out, outOf, call, beside, bufferAfter, replyToWriting, writeCall, Did}
+use Rattle.calls.specs.Exports.{WritesText, ReadsText}
+use Rattle.calls.proofs.Exports.{refusal-number, replies-to, second, does-step, step-image}
+
+-- ---- writing
+
+module _ (s : Store) (b : List ℕ) where
+  pub text-fits : length (packedText s) ≤ length b → step (writePacked (length b)) s ≡ done s (written (packedText s))
+  unfolding step textWritten
+  text-fits h = rw (le-ltb (length b) (length (packedText s)) h)
+
+  pub text-short : length b < length (packedText s) → step (writePacked (length b)) s ≡ refused TextTooLong
+  unfolding step textWritten
+  text-short h = rw (lt-ltb (length b) (length (packedText s)) h)
+
+-- with a record of 128 bytes it comes to this
+written-as : (r b a : List ℕ) (s : Store) (reply : Reply) → decode r ≡ some s → length a ≡ 128 → step (writePacked (length b)) s ≡ reply
+    → writeCall r b a ≡ beside (outOf reply r) (bufferAfter reply b)
+unfolding writeCall replyToWriting
+written-as r b a s reply e l q =
+    rw (eq-eqb (length a) 128 l)
+    (ap (λ (x : Reply). beside (outOf x r) (bufferAfter x b)) (replies-to (writePacked (length b)) r s e ∙ q))
+
+module _ (r b a : List ℕ) (s : Store) (n : ℕ) (a′ r′ b′ : List ℕ) (e : decode r ≡ some s) (l : length a ≡ 128) (d : Did (writeCall r b a) n a′ (r′ ∷ b′ ∷ [])) where
+  comes : (reply : Reply) → step (writePacked (length b)) s ≡ reply → Did (beside (outOf reply r) (bufferAfter reply b)) n a′ (r′ ∷ b′ ∷ [])
+  comes reply q = subst (λ (o : Out). Did o n a′ (r′ ∷ b′ ∷ [])) (written-as r b a s reply e l q) d
+
+  fits : length (packedText s) ≤ length b
+      → (n ≡ 0) × (take (length (packedText s)) b′ ≡ packedText s) × (drop (length (packedText s)) b′ ≡ drop (length (packedText s)) b)
+  unfolding outOf answerOf
+  fits h =
+      let t : List ℕ = packedText s in
+      let x = comes (done s (written t)) (text-fits s b h) in
+      let q : b′ ≡ t ++ drop (length t) b = second r′ (image s) b′ (t ++ drop (length t) b) (x .lent) in
+      (x .code, ap (take (length t)) q ∙ take-append-seam t (drop (length t) b), ap (drop (length t)) q ∙ drop-append-seam t (drop (length t) b))
+
+  short : length b < length (packedText s) → (n ≡ 32) × (b′ ≡ b)
+  unfolding outOf answerOf refusalAnswer
+  short h = let x = comes (refused TextTooLong) (text-short s b h) in (x .code, second r′ r b′ b (x .lent))
+
+pub writes-text : WritesText
+writes-text r b a s n a′ r′ b′ e l d = (fits r b a s n a′ r′ b′ e l d, short r b a s n a′ r′ b′ e l d)
+
+-- ---- reading
+
+-- a call that returns 0 is done
+done-code : (reply : Reply) (r : List ℕ) → 0 ≡ outOf reply r .code → (u : Store) × ((g : Given) × (reply ≡ done u g))
+unfolding outOf answerOf
+done-code (done u g) r e = (u, (g, refl))
+done-code (stopped noCommitter s made) r e = absurd (omega arith)
+done-code (stopped usedUp s made) r e = absurd (omega arith)
+done-code (refused x) r e = absurd (refusal-number x e)
+
+pub reads-text : ReadsText
+reads-text r a s a′ r′ t e h l d =
+    let c = readPacked (packedText t) in
+    let o : call c r a ≡ outOf (step c s) r = does-step c r a s e l in
+    let x = done-code (step c s) r (d .code ∙ ap (λ (o : Out). o .code) o) in
+    let i : r′ ≡ image (leaves (step c s) s) = step-image c r r′ s e (d .lent ∙ ap (λ (o : Out). o .lent) o) in
+    let f : Fine (leaves (step c s) s) = kept s (decoded r s e .0) c in
+    let u : leaves (step c s) s ≡ x .0 = ap (λ (reply : Reply). leaves reply s) (x .1 .1) in
+    (leaves (step c s) s, ap decode i ∙ decode-image (leaves (step c s) s) f, ap packedTable u ∙ same-table t h s (x .0) (x .1 .0) (x .1 .1))

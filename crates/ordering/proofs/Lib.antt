@@ -1,0 +1,5 @@
+pub mod Lists
+pub mod Places
+pub mod Opens
+pub mod Sorts
+pub mod Lines
