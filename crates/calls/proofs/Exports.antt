@@ -355,6 +355,10 @@ writing-replies P b r f g = go (decode r) refl
     go none e = f BadRegion
     go (some s) e = wrote s e (ltb (length b) (length (packedText s)))
 
+-- the region stays
+pub writing-region : (b r : List ℕ) → regionAfter (replyToWriting b r) r ≡ r
+writing-region b r = writing-replies (λ (reply : Reply). regionAfter reply r ≡ r) b r (λ x. refl) (λ s e. decoded r s e .1)
+
 pub write-unchanged : WriteUnchanged
 unfolding writeCall outOf answerOf
 write-unchanged r b a n a′ r′ b′ d =

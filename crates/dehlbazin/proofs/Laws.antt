@@ -1,5 +1,5 @@
 -- What a call answers, by the verdict of the function below it. Assumes nothing.
-use mathlib.Core.Path.{_≡_, refl, ap, ap₂, _∙_}
+use mathlib.Core.Path.{_≡_, refl, sym, ap, ap₂, _∙_}
 use mathlib.Core.List.{List, [], _∷_}
 use Prim.Native.Nat.{ℕ}
 use lib.ListN.{length}
@@ -9,7 +9,8 @@ use Rattle.model.specs.Numbers.{Answer}
 use Rattle.answers.specs.declared.Verdict.{Verdict}
 use Rattle.answers.specs.Answers.{recordOf, answerBy}
 use Rattle.receiver.specs.Receiver.{closed}
-use Rattle.calls.specs.Call.{replyTo, replyToRecord, replyToClosing, Out, outOf, recorded, replied, call, startCall, beside, closeCall, Kept, keptOut, keptCall, Did, Replied, Closed, Keeps}
+use Rattle.calls.specs.Call.{replyTo, replyToRecord, replyToClosing, Out, outOf, recorded, replied, call, startCall, beside, closeCall, bufferAfter, replyToWriting, writeCall, Kept, keptOut, keptCall, Did, Replied, Closed, Wrote, Keeps}
+use Rattle.calls.proofs.Exports.{writing-region}
 use Rattle.records.specs.Record.{RecordCall, kept, recordCall}
 use Rattle.receiving.specs.Fragments.{ReceiverCall, received, receiverCall}
 
@@ -74,6 +75,19 @@ unfolding closeCall outOf
 finished-closing mode r r′ b b′ a a′ v n l d f =
     filled (beside (outOf (replyToClosing b mode r) r) (closed b)) _ (r ∷ b ∷ []) (r′ ∷ b′ ∷ []) a a′ v n l (d .answer)
     (ap₂ (λ (r b : List ℕ). r ∷ b ∷ []) (d .region) (d .receiver)) refl refl f
+
+-- ---- of writing the packed table's text, into a buffer that is lent beside the region
+
+pub small-writing : (r b a : List ℕ) → (length a ≡ 128 → ⊥) → Did (writeCall r b a) 1 a (r ∷ b ∷ [])
+unfolding writeCall
+small-writing r b a h = small (beside (outOf (replyToWriting b r) r) (bufferAfter (replyToWriting b r) b)) (r ∷ b ∷ []) a h
+
+pub finished-writing : (r b b′ a a′ : List ℕ) (v : Verdict) (n : ℕ) → length a ≡ 128 → Wrote v r b b′
+    → (n ≡ answerBy v .number) × (a′ ≡ recordOf (answerBy v .places)) → Did (writeCall r b a) n a′ (r ∷ b′ ∷ [])
+unfolding writeCall outOf
+finished-writing r b b′ a a′ v n l d f =
+    filled (beside (outOf (replyToWriting b r) r) (bufferAfter (replyToWriting b r) b)) _ (r ∷ b ∷ []) (r ∷ b′ ∷ []) a a′ v n l (d .answer)
+    (ap₂ (λ (r b : List ℕ). r ∷ b ∷ []) (sym (writing-region b r)) (d .buffer)) refl refl f
 
 -- ---- of any call on one buffer that is no region
 

@@ -2,9 +2,9 @@
 // fixes the number, every byte of the record and every byte of what is lent, the region first.
 ghost use mathlib.Core.List.{[], _∷_};
 ghost use Rattle.model.specs.Reply.Call.{start, addName, nameBytes, loadLoose, loadPacked, placeLock, liftLock};
-ghost use Rattle.model.specs.Reply.Call.{prepare, commit, rollback, readName, readLine, readRow};
+ghost use Rattle.model.specs.Reply.Call.{prepare, commit, rollback, readName, readLine, readRow, readPacked};
 ghost use Rattle.settings.specs.Lent.{settingsGiven, committersGiven};
-ghost use Rattle.calls.specs.Call.{call, startCall, closeCall, Did};
+ghost use Rattle.calls.specs.Call.{call, startCall, closeCall, writeCall, Did};
 ghost use Rattle.records.specs.Record.{recordCall};
 ghost use Rattle.records.specs.Record.RecordCall.{readSettings, readCommitter, writeSettings};
 ghost use Rattle.receiving.specs.Fragments.{receiverCall};
@@ -217,6 +217,32 @@ pub extern "C" fn dehlbazin_read_row(region: &[u8], place: u64, answer: &mut [u8
         return Answer::BAD_REGION;
     }
     let verdict = reads::read_row(region, place);
+    answers::finish(answer, verdict)
+}
+
+// ---- the packed table as text
+
+// Writes it at the beginning of a buffer: how long it is.
+#[no_mangle]
+pub extern "C" fn dehlbazin_write_packed(region: &[u8], buffer: &mut [u8], answer: &mut [u8]) -> u32
+    ensures { λ r. ⌜ Did (writeCall (now (region .entry)) (now (buffer .entry)) (now (answer .entry))) r (now (answer .exit)) (now (region .entry) ∷ now (buffer .exit) ∷ []) ⌝ }
+{
+    if answer.len() != Answer::SIZE {
+        return Answer::BAD_REGION;
+    }
+    let verdict = packing::write_packed(region, buffer);
+    answers::finish(answer, verdict)
+}
+
+// Puts what a text says in the place of all packed values: how many refs it has.
+#[no_mangle]
+pub extern "C" fn dehlbazin_read_packed(region: &mut [u8], text: &[u8], answer: &mut [u8]) -> u32
+    ensures { λ r. ⌜ Did (call (readPacked (now (text .entry))) (now (region .entry)) (now (answer .entry))) r (now (answer .exit)) (now (region .exit) ∷ []) ⌝ }
+{
+    if answer.len() != Answer::SIZE {
+        return Answer::BAD_REGION;
+    }
+    let verdict = packing::read_packed(region, text);
     answers::finish(answer, verdict)
 }
 

@@ -39,7 +39,8 @@ pub fn read_packed(region: &mut [u8], text: &[u8]) -> Verdict
     if !load::has_room(region, text, checked.lines) {
         return Verdict::bare(Answer::NAMES_FULL);
     }
-    match checked.ending {
+    let ending = checked.ending;
+    match ending {
         Ending::Malformed => Verdict::one(Answer::MALFORMED_LINE, checked.lines + 1),
         Ending::Unpackable => Verdict::bare(Answer::BAD_LOAD),
         Ending::Whole => {

@@ -86,7 +86,7 @@ some-of none h = absurd (false≢true h)
 some-of (some a) h = (a, refl)
 
 -- without a line feed there is one piece
-one-piece : (l : List ℕ) → upTo 10 l ≡ length l → pieces 10 l ≡ l ∷ []
+pub one-piece : (l : List ℕ) → upTo 10 l ≡ length l → pieces 10 l ≡ l ∷ []
 one-piece l e = first-then 10 l ∙ ap (λ (k : ℕ). take k l ∷ after 10 (drop k l)) e ∙ ap₂ (λ (a b : List ℕ). a ∷ after 10 b) (take-length l) (drop-length l)
 
 -- the name of a line, as a part of the text
@@ -285,6 +285,10 @@ checked t p r e h f q = record {
       let a : length (drop (p .lines) (pieces 10 t)) ≡ length (pieces 10 (drop (p .at) t)) = ap length (h .left) in
       let b : 1 ≤ length (pieces 10 (drop (p .at) t)) = some-piece 10 (drop (p .at) t) in
       omega (arith, length-drop (p .lines) (pieces 10 t));
+  few =
+      let a : p .lines ≤ p .at = h .few in
+      let b : p .at ≤ length t = h .inside in
+      omega arith;
   refs = h .refs;
   reads = h .reads ∙ ap (onto (firstRefs (p .lines) t)) (subst (Goes t p) q f) ∙ ap (λ (rs : List Ref). record { refs = rs; end = endBy e (p .lines + 1) }) (append-nil (firstRefs (p .lines) t));
 }

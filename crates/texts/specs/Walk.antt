@@ -87,5 +87,6 @@ Goes t p (Going q) = At t q × (p .at < q .at)
 -- a whole text
 pub record Checks (t : List ℕ) (c : Checked) : Type 0 where
   pub lines : c .lines < length (pieces lineFeed t)
+  pub few : c .lines ≤ length t
   pub refs : c .refs ≡ length (firstRefs (c .lines) t)
   pub reads : readText t ≡ record { refs = firstRefs (c .lines) t; end = endBy (c .ending) (c .lines + 1) }

@@ -1,0 +1,27 @@
+use borrow.Author.Needs.{needs}
+use Rattle.dehlbazin.proofs.Laws.{small-record, finished}
+use Rattle.dehlbazin.proofs.dehlbazin_read_packed.Statement.{statement}
+use Rattle.dehlbazin.proofs.dehlbazin_read_packed.Tie as tie
+
+returns : tie.Need-returns
+returns c = search small-record
+
+read-packed-requires : tie.Need-read-packed-requires
+read-packed-requires c κs = search needs
+
+finish-requires : tie.Need-finish-requires
+finish-requires c κs = search needs
+
+same-length : tie.Need-same-length
+same-length c = search needs
+
+same-length-2 : tie.Need-same-length-2
+same-length-2 c = search needs
+
+returns-2 : tie.Need-returns-2
+returns-2 c = search finished
+
+pub dehlbazin-read-packed-spec : {M : Type 1} → statement M
+dehlbazin-read-packed-spec =
+    tie.close
+    (tie.spec returns read-packed-requires finish-requires same-length same-length-2 returns-2)

@@ -1,0 +1,4 @@
+pub mod Room
+pub mod Loading
+pub mod Read
+pub mod Write
