@@ -1,11 +1,12 @@
 // Dehlbazin for C++17: the calls of dehlbazin.h with types. Header only; it needs the archive, dehlbazin.h and the standard
 // library.
 //
-// docs/SPEC.md says what the calls mean, docs/SETTINGS.md what the settings of a site are, and docs/ABI.md shows whole programs.
+// docs/SPEC.md says what the calls mean, docs/PACKED-TEXT.md what the packed table's text is, docs/SETTINGS.md what the settings
+// of a site are, and docs/ABI.md shows whole programs.
 //
 // Each call gives a Result: its value, or the Refusal with its number and what comes with it. Nothing here throws but value(),
-// which throws Refused where there is no value. (Words are std::strings, whose memory can run out.) A commit that stopped on
-// its way is no refusal: it is an Outcome, with the number of writes that were made.
+// which throws Refused where there is no value. (Words and texts are std::strings, whose memory can run out.) A commit that stopped
+// on its way is no refusal: it is an Outcome, with the number of writes that were made.
 //
 // A Store keeps no copy of anything: each call reads the region, and tests it whole first. So does a Receiver with its bytes.
 //
@@ -13,13 +14,14 @@
 //   - the number of a name and the number of an object are two types, and neither is taken for the other. The packed table, which
 //     has no number, is a type of its own, so that no lock is placed on it by mistake;
 //   - what is lent to a call never overlaps: the bytes of a name, of a fragment, and of a settings record that a store is started
-//     with, are copied before they are passed on, and lists and answers are objects of their own;
+//     with, are copied before they are passed on, and so is a text that lies in the region; lists and answers are objects of their
+//     own;
 //   - the number of a name is tested before it is put into the 2 bytes that an edit has for it.
 // What the caller still must see to:
 //   - that the region lives as long as the Store or View over it, and the Store as long as it is used; and so with the bytes of a
 //     receiver and the Receiver over them, and with those of a settings record and the SettingsView over them;
-//   - that the buffer that Settings are written into lies apart from them, and a receiver's bytes apart from the region that it is
-//     closed on;
+//   - that the buffer that Settings are written into lies apart from them, the one that a packed table's text is written into apart
+//     from the region, and a receiver's bytes apart from the region that it is closed on;
 //   - that one region has one Store at a time, a receiver's bytes one Receiver, and that calls on each come one after the other.
 #ifndef DEHLBAZIN_HPP
 #define DEHLBAZIN_HPP
@@ -35,6 +37,7 @@
 #include <cstdint>
 #include <cstdlib>
 #include <cstring>
+#include <functional>
 #include <initializer_list>
 #include <iterator>
 #include <optional>
@@ -88,6 +91,9 @@ using Region = std::array<uint8_t, DEHLBAZIN_REGION_SIZE>;
 
 // The bytes of a receiver, of the right size. Bytes from elsewhere, as from shared memory, are passed as a pointer and a size.
 using ReceiverBytes = std::array<uint8_t, DEHLBAZIN_RECEIVER_SIZE>;
+
+// A buffer that no packed table's text is too long for.
+using PackedTextBuffer = std::array<uint8_t, DEHLBAZIN_PACKED_TEXT_MOST_BYTES>;
 
 enum class Setting : uint64_t {
     never = DEHLBAZIN_SETTING_NEVER,
@@ -277,6 +283,8 @@ enum class Reason : uint32_t {
     unknown_version = DEHLBAZIN_UNKNOWN_VERSION,
     name_conflict = DEHLBAZIN_NAME_CONFLICT,
     receiver_full = DEHLBAZIN_RECEIVER_FULL,
+    malformed_line = DEHLBAZIN_MALFORMED_LINE,
+    text_too_long = DEHLBAZIN_TEXT_TOO_LONG,
     short_buffer = DEHLBAZIN_SHORT_BUFFER,
 };
 
@@ -338,14 +346,18 @@ inline constexpr Word words[] = {
     {"unknown_version", "the settings record has a version that is not known"},
     {"name_conflict", "a name above or beneath it has a loose value, or would get one"},
     {"receiver_full", "the fragment is longer than the room that is left in the receiver"},
+    {"malformed_line", "this line of the packed table's text is malformed"},
 };
 
+inline constexpr Word text_too_long = {"text_too_long", "the buffer is shorter than the packed table's text"};
 inline constexpr Word short_buffer = {"short_buffer", "the buffer is shorter than the settings record"};
 inline constexpr Word unknown = {"unknown", "a number that this header does not know"};
 
-// The numbers between the last of these words and that of a short buffer are given by no call.
+// The numbers between the last of these words and those of a buffer that is too short are given by no call.
 inline const Word &word_of(uint32_t number)
 {
+    if (number == DEHLBAZIN_TEXT_TOO_LONG)
+        return text_too_long;
     if (number == DEHLBAZIN_SHORT_BUFFER)
         return short_buffer;
     return number < std::size(words) ? words[number] : unknown;
@@ -431,6 +443,14 @@ public:
     std::optional<Target> next() const
     {
         return reason() == Reason::must_not_exist ? answer_.target(DEHLBAZIN_MUST_NOT_EXIST_NEW_KIND) : std::nullopt;
+    }
+
+    // The line of a text that is malformed, of 27: from 1, with comments and peeled lines counted.
+    std::optional<uint64_t> line_number() const
+    {
+        if (reason() != Reason::malformed_line)
+            return std::nullopt;
+        return place(DEHLBAZIN_MALFORMED_LINE_NUMBER);
     }
 
     // As dehlbazin.h has it: place i of the answer record.
@@ -733,6 +753,12 @@ inline Result<Done> given(const Answer &answer)
     return given(answer, [](const Answer &) { return Done(); });
 }
 
+// A range of bytes that stand one after the other.
+template <typename Bytes>
+using IfBytes =
+    std::enable_if_t<std::is_convertible_v<decltype(std::data(std::declval<const Bytes &>())), const uint8_t *>,
+                     decltype(std::begin(std::declval<const Bytes &>()))>;
+
 } // namespace detail
 
 // ---- the settings of a site
@@ -937,6 +963,26 @@ public:
 
     // A row of the prepared transaction.
     Result<Row> read_row(uint64_t place) const { return detail::given(ask(dehlbazin_read_row, place), row_of); }
+
+    // Writes the packed table as text at the beginning of a buffer, and gives its length: a line for each name that has a packed
+    // value, in byte order of the names. A transaction may be prepared. Bytes past the text stay as they are; on a refusal all do.
+    // Refused with 32 where the buffer is too short.
+    Result<size_t> write_packed(PackedTextBuffer &buffer) const { return write_packed(buffer.data(), buffer.size()); }
+    Result<size_t> write_packed(uint8_t *buffer, size_t size) const
+    {
+        return detail::given(ask(dehlbazin_write_packed, buffer, buffer ? size : 0), [](const detail::Answer &answer) {
+            return size_t(answer.place(DEHLBAZIN_WRITE_PACKED_LENGTH));
+        });
+    }
+    // The whole text, which has room here whatever its length.
+    Result<std::string> packed_text() const
+    {
+        PackedTextBuffer buffer;
+        const Result<size_t> length = write_packed(buffer);
+        if (!length)
+            return *length.refusal();
+        return std::string(reinterpret_cast<const char *>(buffer.data()), *length.get());
+    }
 
     // for (const Name &name : store.names()), in the order in which they were added.
     Walk<detail::ReadNames> names() const;
@@ -1148,6 +1194,32 @@ public:
         return detail::given(change(dehlbazin_load_packed, name.number(), kind, object ? object->number() : 0));
     }
 
+    // Reads a text, puts what it says in the place of the whole packed table, and gives how many refs it has. A name that it does
+    // not have has no packed value then, and one that is new is added. Loose values, locks and logs stay. A text of no bytes is an
+    // empty table. Refused with 15 while a transaction is prepared; then the first line at fault decides: 27 it is malformed, which
+    // comes with its number; 21 object 0, or a name that is not packable; 19 a new name, and 256 are held. A text that is refused
+    // changes nothing. The bytes may be anywhere; where they lie in the region, they are copied.
+    Result<uint64_t> read_packed(const uint8_t *text, size_t size)
+    {
+        if (!text && size > 0) // no text, and no empty table either: as a byte that is no line, it is refused in its turn
+            return read_packed(&no_line, 1);
+        if (!overlaps(text, size))
+            return refs_of(change(dehlbazin_read_packed, text, size));
+        const std::string copy(reinterpret_cast<const char *>(text), size);
+        return refs_of(change(dehlbazin_read_packed, reinterpret_cast<const uint8_t *>(copy.data()), copy.size()));
+    }
+    Result<uint64_t> read_packed(std::string_view text)
+    {
+        return read_packed(reinterpret_cast<const uint8_t *>(text.data()), text.size());
+    }
+    // Bytes that know how many they are: an array, a std::array, a std::vector, and in C++20 a std::span.
+    template <typename Bytes, typename = detail::IfBytes<Bytes>> Result<uint64_t> read_packed(const Bytes &text)
+    {
+        return read_packed(std::data(text), std::size(text));
+    }
+    // Nothing that would end at its first zero: the lines behind one in a damaged text would be missed.
+    Result<uint64_t> read_packed(const char *) = delete;
+
     // Foreign locks: another program holds the name, or the packed table. Refused with 20 where the lock to be placed is not free,
     // or the one to be lifted is not foreign.
     Result<Done> place_lock(NameNumber name)
@@ -1196,12 +1268,25 @@ private:
     friend class Transaction;
     friend class Receiver;
     static constexpr size_t MOST_NAME_BYTES = 64;
+    static constexpr uint8_t no_line = 0;
 
     Store(uint8_t *region, size_t size) : View(region, size), bytes_(region) {}
 
     template <typename Entry, typename... Arguments> detail::Answer change(Entry entry, Arguments... arguments)
     {
         return detail::ask(entry, bytes_, size_, arguments...);
+    }
+
+    // Whether some of these bytes are the region's.
+    bool overlaps(const uint8_t *bytes, size_t size) const
+    {
+        const std::less<const uint8_t *> before{};
+        return size > 0 && before(bytes, region_ + size_) && before(region_, bytes + size);
+    }
+
+    static Result<uint64_t> refs_of(const detail::Answer &answer)
+    {
+        return detail::given(answer, [](const detail::Answer &given) { return given.place(DEHLBAZIN_READ_PACKED_REFS); });
     }
 
     // What was prepared, by a list or by a receiver that was closed: both answer in the same places.
@@ -1275,16 +1360,6 @@ inline Result<uint64_t> Transaction::rollback()
 }
 
 // ---- a list that arrives in fragments
-
-namespace detail {
-
-// A range of bytes that stand one after the other.
-template <typename Bytes>
-using IfBytes =
-    std::enable_if_t<std::is_convertible_v<decltype(std::data(std::declval<const Bytes &>())), const uint8_t *>,
-                     decltype(std::begin(std::declval<const Bytes &>()))>;
-
-} // namespace detail
 
 // Bytes that are lent for as long as the receiver lives, and in which an edit list is collected: its bytes, EditList's data() and
 // size(), cut anywhere. There is room for the longest list, 868 bytes.
@@ -1415,6 +1490,8 @@ struct Speaker {
         const std::string says = word_of(refusal.number()).says;
         if (refusal.reason() == Reason::not_registered)
             return "name " + std::to_string(refusal.name()->number()) + ": " + says;
+        if (refusal.line_number())
+            return "line " + std::to_string(*refusal.line_number()) + ": " + says;
         if (!refusal.name())
             return says;
         const std::string of = name(*refusal.name()) + ": " + says;

@@ -1,5 +1,5 @@
-// The thirteen entries of an archive. Two archives export the same names, so those of an older one get a prefix before they are
-// linked (tools/bench), and both are called in one run.
+// Thirteen entries of an archive, which older ones have too. Two archives export the same names, so those of an older one get a
+// prefix before they are linked (tools/bench), and both are called in one run.
 #pragma once
 
 #include "calls.h"
@@ -18,5 +18,5 @@ struct Archive {
 extern const Archive NOW;
 extern const Archive *const BEFORE; // null where no older archive was given
 
-// Makes the call on a region and a record of the right sizes, and gives its number.
+// Makes the call on a region and a record of the right sizes, and gives its number. It is one of the thirteen.
 uint32_t make(const Archive &archive, const Call &call, uint8_t *region, uint8_t *record);

@@ -1,4 +1,4 @@
-// Each of the thirteen calls, the lock calls on both kinds, on an empty, a usual and a full region.
+// Each of thirteen calls, the lock calls on both kinds, on an empty, a usual and a full region.
 #include "paper.h"
 #include "report.h"
 #include "sites.h"

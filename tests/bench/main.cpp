@@ -26,5 +26,7 @@ int main(int count, char **words)
         print_lookups();
     if (is_asked(count, words, "fragments"))
         print_fragments();
+    if (is_asked(count, words, "texts"))
+        print_texts();
     return 0;
 }

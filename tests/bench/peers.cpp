@@ -17,6 +17,7 @@ bool is_change(Op op)
     case Op::read_name:
     case Op::read_line:
     case Op::read_row:
+    case Op::write_packed:
         return false;
     default:
         return true;

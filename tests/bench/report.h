@@ -26,3 +26,6 @@ void print_lookups();
 
 // Taking fragments, and closing beside prepare.
 void print_fragments();
+
+// Writing the packed table as text, and reading it.
+void print_texts();

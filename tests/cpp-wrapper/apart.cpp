@@ -14,7 +14,7 @@ static bool apart(const uint8_t *x, size_t x_size, const uint8_t *y, size_t y_si
 static void all_apart(const uint8_t *region, size_t region_len, const uint8_t *bytes, size_t len, const uint8_t *answer,
                       size_t size)
 {
-    check(apart(region, region_len, bytes, len), "a name, list, record, fragment or receiver apart from the region or buffer");
+    check(apart(region, region_len, bytes, len), "bytes, a receiver or a buffer apart from the region or buffer");
     check(apart(region, region_len, answer, size) && apart(bytes, len, answer, size), "a record apart from both");
 }
 
@@ -25,6 +25,8 @@ decltype(dehlbazin_start_with_settings) __real_dehlbazin_start_with_settings, __
 decltype(dehlbazin_write_settings) __real_dehlbazin_write_settings, __wrap_dehlbazin_write_settings;
 decltype(dehlbazin_take_fragment) __real_dehlbazin_take_fragment, __wrap_dehlbazin_take_fragment;
 decltype(dehlbazin_close_receiver) __real_dehlbazin_close_receiver, __wrap_dehlbazin_close_receiver;
+decltype(dehlbazin_write_packed) __real_dehlbazin_write_packed, __wrap_dehlbazin_write_packed;
+decltype(dehlbazin_read_packed) __real_dehlbazin_read_packed, __wrap_dehlbazin_read_packed;
 
 uint32_t __wrap_dehlbazin_add_name(uint8_t *region, size_t region_len, const uint8_t *name, size_t len, uint8_t *answer,
                                    size_t size)
@@ -59,6 +61,20 @@ uint32_t __wrap_dehlbazin_close_receiver(uint8_t *region, size_t region_len, uin
 {
     all_apart(region, region_len, receiver, len, answer, size);
     return __real_dehlbazin_close_receiver(region, region_len, receiver, len, mode, answer, size);
+}
+
+uint32_t __wrap_dehlbazin_write_packed(const uint8_t *region, size_t region_len, uint8_t *buffer, size_t len, uint8_t *answer,
+                                       size_t size)
+{
+    all_apart(region, region_len, buffer, len, answer, size);
+    return __real_dehlbazin_write_packed(region, region_len, buffer, len, answer, size);
+}
+
+uint32_t __wrap_dehlbazin_read_packed(uint8_t *region, size_t region_len, const uint8_t *text, size_t len, uint8_t *answer,
+                                      size_t size)
+{
+    all_apart(region, region_len, text, len, answer, size);
+    return __real_dehlbazin_read_packed(region, region_len, text, len, answer, size);
 }
 
 uint32_t __wrap_dehlbazin_write_settings(uint8_t *buffer, size_t buffer_len, uint64_t version, uint64_t log, uint64_t mode,

@@ -42,6 +42,7 @@ int main(int count, char **words)
     part("marked", test_marked);
     part("settings", test_settings);
     part("receiver", test_receiver);
+    part("packed_text", test_packed_text);
     part("same", [=] { test_same(calls, seed); });
     return closing() ? 0 : 1;
 }

@@ -12,4 +12,5 @@ void test_words();
 void test_marked();
 void test_settings();
 void test_receiver();
+void test_packed_text();
 void test_same(size_t calls, uint64_t seed);

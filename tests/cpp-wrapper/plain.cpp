@@ -72,18 +72,29 @@ static uint32_t call(const Step &s, uint8_t *r, size_t n, uint8_t *answer, size_
         return dehlbazin_read_line(r, n, s.a, s.b, answer, size);
     case Op::start_with_settings:
         return dehlbazin_start_with_settings(r, n, lent, bytes.size(), answer, size);
+    case Op::read_packed:
+        return dehlbazin_read_packed(r, n, lent, bytes.size(), answer, size);
     default:
         return dehlbazin_read_row(r, n, s.a, answer, size);
     }
+}
+
+static uint32_t write_text(const Region &region, std::string &buffer, uint8_t *answer, size_t size)
+{
+    uint8_t *lent = reinterpret_cast<uint8_t *>(buffer.data());
+    return dehlbazin_write_packed(region.data(), region.size(), lent, buffer.size(), answer, size);
 }
 
 Reply make_plainly(const Step &step, Region &region, ReceiverBytes &receiver)
 {
     uint8_t answer[DEHLBAZIN_ANSWER_SIZE];
     Reply reply;
+    if (step.op == Op::write_packed)
+        reply.buffer.assign(step.a, OLD);
     const bool receives = step.op == Op::fresh_receiver || step.op == Op::take_fragment || step.op == Op::close_receiver;
-    reply.number = receives ? call_receiver(step, region, receiver, answer, sizeof answer)
-                            : call(step, region.data(), region.size(), answer, sizeof answer);
+    reply.number = receives                        ? call_receiver(step, region, receiver, answer, sizeof answer)
+                   : step.op == Op::write_packed ? write_text(region, reply.buffer, answer, sizeof answer)
+                                                   : call(step, region.data(), region.size(), answer, sizeof answer);
     for (size_t i = 0; i < reply.places.size(); i++)
         reply.places[i] = dehlbazin_place(answer, i);
     return reply;

@@ -25,8 +25,10 @@ enum class Op {
     fresh_receiver,
     take_fragment,
     close_receiver,
+    write_packed,
+    read_packed,
 };
-constexpr size_t OPS = size_t(Op::close_receiver) + 1;
+constexpr size_t OPS = size_t(Op::read_packed) + 1;
 
 // An edit in numbers. An update has a target, object or link; a delete has neither force nor a message.
 struct Fields {
@@ -39,17 +41,22 @@ struct Fields {
 
 struct Step {
     Op op;
-    uint64_t a = 0, b = 0, c = 0; // the numbers, in the call's order
-    std::string bytes{};          // a name's, a settings record's, or a fragment
+    uint64_t a = 0, b = 0, c = 0; // the numbers, in the call's order; of a buffer how many bytes it has
+    std::string bytes{};          // a name's, a settings record's, a fragment, or a text
     std::vector<Fields> edits{};
-    unsigned way = 0; // of a commit or a rollback: through the transaction, or the store, or by letting it go; of a fragment too
+    unsigned way = 0; // of a commit or a rollback: through the transaction, or the store, or by letting it go; of bytes too
 };
 
 struct Reply {
     uint32_t number = 0;
     std::array<uint64_t, 16> places{};
+    std::string buffer{}; // what is left of the buffer that is written into
 };
-inline bool operator==(const Reply &x, const Reply &y) { return x.number == y.number && x.places == y.places; }
+inline bool operator==(const Reply &x, const Reply &y)
+{
+    return x.number == y.number && x.places == y.places && x.buffer == y.buffer;
+}
+constexpr char OLD = '\x77'; // what stands in a buffer before
 
 // The bytes of an edit list, by the table of docs/SPEC.md.
 std::string list_bytes(const std::vector<Fields> &edits);
@@ -77,6 +84,8 @@ private:
     Reply commit(const Step &step);
     Reply rollback(const Step &step);
     Reply read(const Step &step);
+    Reply write_text(const Step &step);
+    Reply read_text(const Step &step);
 
     dehlbazin::Region &region_;
     dehlbazin::Store store_;

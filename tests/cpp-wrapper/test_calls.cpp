@@ -1,4 +1,4 @@
-// Each of the thirteen calls on a store, done and refused, through its typed form.
+// Each of the calls on a store, but those of the packed table's text, done and refused, through its typed form.
 #include "parts.h"
 #include "site.h"
 

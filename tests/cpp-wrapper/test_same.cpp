@@ -147,6 +147,49 @@ static Step some_arrival(Dice &dice, const Known &known)
     return step;
 }
 
+static std::string some_line(Dice &dice, const std::string &name)
+{
+    static const char hex[] = "0123456789abcdef";
+    std::string line(24, '0');
+    const uint64_t object = some_object(dice);
+    for (int shift = 60; shift >= 0; shift -= 4)
+        line += hex[object >> shift & 15];
+    return line + " " + name + "\n";
+}
+
+// Some of the names that can be packed, as they rise; and now and then a byte changed or more, or a line that cannot be read there.
+static Step some_text(Dice &dice)
+{
+    static const char *const rising[] = {"refs/heads/a", "refs/heads/a/e", "refs/heads/b",
+                                         "refs/notes/n", "refs/tags/a",    "refs/x/y"};
+    Step step{Op::read_packed};
+    step.way = unsigned(dice.below(3));
+    if (dice.once_in(3))
+        step.bytes = "# a comment\n";
+    for (const char *name : rising) {
+        if (dice.once_in(2))
+            continue;
+        step.bytes += some_line(dice, name);
+        if (dice.once_in(6))
+            step.bytes += "^" + std::string(40, 'e') + "\n";
+    }
+    if (dice.once_in(8))
+        step.bytes += some_line(dice, some_name(dice));
+    if (dice.once_in(6) && !step.bytes.empty())
+        step.bytes[dice.below(step.bytes.size())] = char(dice.any());
+    if (dice.once_in(12))
+        step.bytes.resize(dice.below(step.bytes.size() + 2));
+    return step;
+}
+
+static Step some_writing(Dice &dice)
+{
+    Step step{Op::write_packed};
+    step.way = unsigned(dice.below(2));
+    step.a = dice.once_in(3) ? DEHLBAZIN_PACKED_TEXT_MOST_BYTES : dice.once_in(2) ? dice.below(400) : 54 * dice.below(6);
+    return step;
+}
+
 // Any call that takes a region or a receiver, with numbers that are good for the most part.
 static Step some_step(Dice &dice, const Known &known)
 {
@@ -176,6 +219,10 @@ static Step some_step(Dice &dice, const Known &known)
         return some_prepare(dice, known);
     case Op::commit:
         return some_commit(dice);
+    case Op::write_packed:
+        return some_writing(dice);
+    case Op::read_packed:
+        return some_text(dice);
     case Op::read_row:
         step.a = number_near(dice, 4);
         return step;
@@ -211,8 +258,10 @@ static void learn(Known &known, const Step &step, const Reply &reply)
 {
     if ((step.op == Op::start || step.op == Op::start_with_settings) && reply.number == 0)
         known = {};
-    if (step.op == Op::add_name && reply.number == 0 && reply.places[0] == known.names)
-        known.names++;
+    if (step.op == Op::add_name && reply.number == 0)
+        known.names = std::max(known.names, reply.places[0] + 1);
+    if (step.op == Op::read_packed && reply.number == 0)
+        known.names = std::max(known.names, reply.places[0]); // there are so many at least
     if (step.op == Op::take_fragment && reply.number == 0)
         known.taken = std::min(known.list.size(), known.taken + step.bytes.size());
     if (step.op == Op::fresh_receiver || step.op == Op::close_receiver) {
@@ -238,7 +287,7 @@ struct Pair {
     ReceiverBytes typed_receiver{}, plain_receiver{};
     Typed typed;
     Known known;
-    Tally numbers, done, closings;
+    Tally numbers, done, closings, readings, writings; // the last two of texts
     Tally placed, lifted;          // locks, by the kind of what has them
     Tally name_places, row_places; // where the calls that read found values
 
@@ -256,6 +305,10 @@ struct Pair {
         numbers.given[plain.number]++;
         if (step.op == Op::close_receiver)
             closings.add(plain.number);
+        if (step.op == Op::read_packed)
+            readings.add(plain.number);
+        if (step.op == Op::write_packed)
+            writings.add(plain.number);
         last = plain.number;
         if (!refused())
             done.given[size_t(step.op)]++;
@@ -318,8 +371,11 @@ void test_same(size_t calls, uint64_t seed)
     Pair pair;
     for (size_t made = 0; made < calls; made++)
         make_one(dice, pair);
-    pair.numbers.all_met("the calls", {0, 1, 2, 3, 4, 6, 7, 8, 9, 10, 11, 12, 13, 15, 16, 17, 18, 20, 21, 22, 23, 24, 25, 26});
+    pair.numbers.all_met("the calls", {0,  1,  2,  3,  4,  6,  7,  8,  9,  10, 11, 12, 13,
+                                       15, 16, 17, 18, 20, 21, 22, 23, 24, 25, 26, 27, 32});
     pair.closings.all_met("closings", {0, 1, 2, 3, 4, 6, 7, 8, 9, 10, 11, 12, 15, 25});
+    pair.readings.all_met("texts that are read", {0, 1, 15, 21, 27});
+    pair.writings.all_met("texts that are written", {0, 1, 32});
     pair.name_places.all_met("the places of names", {1, 2, 3, 4, 5});
     pair.row_places.all_met("the places of rows", {1, 2, 4, 5}); // 3 is too rare to be asked for
     for (uint64_t kind : {DEHLBAZIN_LOCKABLE_NAME, DEHLBAZIN_LOCKABLE_PACKED_TABLE})

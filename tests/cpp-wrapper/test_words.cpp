@@ -53,6 +53,8 @@ static void test_refusals()
     says(store, prepare(Update(head, object(1)).deref()), "links are still followed in a fifth round",
          "links are still followed in a fifth round");
     says(store, store.add_name("head"), "the bytes are no name", "the bytes are no name");
+    const std::string malformed = "line 2: this line of the packed table's text is malformed";
+    says(store, store.read_packed(std::string("# a comment\nx\n")), malformed, malformed);
     says(store, store.commit(Committer(1)), "a transaction is prepared and must not be, or none is and must be",
          "a transaction is prepared and must not be, or none is and must be");
 }
@@ -64,6 +66,7 @@ static void test_others()
     says(to_string(Refusal(Reason::malformed_record)), "the settings record is malformed, or a setting is out of bounds");
     says(to_string(Refusal(Reason::unknown_version)), "the settings record has a version that is not known");
     says(to_string(Refusal(Reason::short_buffer)), "the buffer is shorter than the settings record");
+    says(to_string(Refusal(Reason::text_too_long)), "the buffer is shorter than the packed table's text");
     says(to_string(Refusal(Reason::nothing_there)), "there is no such log line, row or committer");
     says(to_string(Refusal(Reason::bad_region)), "the region holds no good store, or the bytes are no good receiver");
     says(to_string(Refusal(Reason::receiver_full)), "the fragment is longer than the room that is left in the receiver");
@@ -116,8 +119,9 @@ static void test_names_of_numbers()
         check(std::strlen(detail::word_of(number).says) > 0, name + " has words");
         numbers.insert(number);
     }
-    check(numbers.size() == 28 && numbers.count(26) == 1 && *numbers.rbegin() == 33, "all numbers from 0 to 26, and 33");
-    for (uint32_t number : {27, 32, 34})
+    check(numbers.size() == 30 && numbers.count(27) == 1 && numbers.count(32) == 1 && *numbers.rbegin() == 33,
+          "all numbers from 0 to 27, 32 and 33");
+    for (uint32_t number : {28, 31, 34})
         says(Refusal(Reason(number)).reason_name(), "unknown"); // of a later archive
     says(Refusal(Reason::too_many_rows).reason_name(), "too_many_rows");
     says(to_string(Refusal(Reason::too_many_rows)), "the edits come to more than 160 rows");

@@ -44,6 +44,8 @@ static Reply refusal_of(const Refusal &refusal)
     Places places;
     if (refusal.name())
         places.push_back(refusal.name()->number());
+    if (refusal.line_number())
+        places.push_back(*refusal.line_number());
     if (refusal.reason() == Reason::must_not_exist) {
         put(places, refusal.actual());
         put(places, refusal.next());
@@ -217,6 +219,35 @@ Reply Typed::read(const Step &step)
     });
 }
 
+// Into a buffer with its size, or into one of the size that is always enough. The whole text is asked for besides, and is the same.
+Reply Typed::write_text(const Step &step)
+{
+    std::string buffer(step.a, OLD);
+    Result<size_t> length = store_.write_packed(reinterpret_cast<uint8_t *>(buffer.data()), buffer.size());
+    if (step.a == DEHLBAZIN_PACKED_TEXT_MOST_BYTES && step.way % 2 == 0) {
+        PackedTextBuffer whole;
+        whole.fill(uint8_t(OLD));
+        length = store_.write_packed(whole);
+        buffer.assign(whole.begin(), whole.end());
+    }
+    const Result<std::string> text = store_.packed_text();
+    check(text.done() == (length.number() != DEHLBAZIN_BAD_REGION), "the whole text is refused with a bad region alone");
+    check(!length || *text.get() == buffer.substr(0, *length.get()), "the whole text, and the one in a buffer");
+    Reply all = reply_of(length, [](size_t bytes) { return Places{bytes}; });
+    all.buffer = buffer;
+    return all;
+}
+
+Reply Typed::read_text(const Step &step)
+{
+    const uint8_t *bytes = reinterpret_cast<const uint8_t *>(step.bytes.data());
+    const Result<uint64_t> refs =
+        step.way % 3 == 0   ? store_.read_packed(step.bytes)
+        : step.way % 3 == 1 ? store_.read_packed(bytes, step.bytes.size())
+                            : store_.read_packed(std::vector<uint8_t>(bytes, bytes + step.bytes.size()));
+    return reply_of(refs, [](uint64_t count) { return Places{count}; });
+}
+
 Reply Typed::make(const Step &step)
 {
     switch (step.op) {
@@ -242,6 +273,10 @@ Reply Typed::make(const Step &step)
     case Op::take_fragment:
     case Op::close_receiver:
         return receive(step);
+    case Op::write_packed:
+        return write_text(step);
+    case Op::read_packed:
+        return read_text(step);
     default:
         return read(step);
     }

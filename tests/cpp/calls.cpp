@@ -3,6 +3,7 @@
 #include "commit.h"
 #include "edits.h"
 #include "image.h"
+#include "packed_text.h"
 #include "prepare.h"
 
 #include <algorithm>
@@ -28,15 +29,25 @@ static std::string in_digits(std::string_view bytes)
     return bytes.size() <= MOST ? text : text + "..";
 }
 
+static std::string beginning_of(const std::string &text, size_t most)
+{
+    return text.size() <= most ? text : text.substr(0, most) + "..";
+}
+
 std::string describe(const Call &call)
 {
     static const char *const names[] = {"start", "add_name", "name_bytes", "load_loose", "load_packed", "place_lock", "lift_lock",
-                                        "prepare", "commit", "rollback", "read_name", "read_line", "read_row"};
+                                        "prepare", "commit", "rollback", "read_name", "read_line", "read_row", "write_packed",
+                                        "read_packed"};
     std::string text = names[size_t(call.op)];
     if (call.op == Op::prepare)
         return text + " '" + in_digits(call.bytes) + "' in mode " + std::to_string(call.a);
     if (call.op == Op::add_name)
-        return text + " '" + (call.bytes.size() <= 80 ? call.bytes : call.bytes.substr(0, 80) + "..") + "'";
+        return text + " '" + beginning_of(call.bytes, 80) + "'";
+    if (call.op == Op::read_packed)
+        return text + " of " + std::to_string(call.bytes.size()) + " bytes '" + beginning_of(call.bytes, 400) + "'";
+    if (call.op == Op::write_packed)
+        return text + " into " + std::to_string(call.bytes.size()) + " bytes";
     size_t numbers = 1;
     if (call.op == Op::load_loose || call.op == Op::load_packed)
         numbers = 3;
@@ -147,6 +158,8 @@ static Answer read_row(const Store &store, uint64_t place)
                       row.leaf_previous, reading_place(store.entries[row.name], opens_packed(store))});
 }
 
+static Answer write_packed(const Store &store, std::string buffer) { return packed_text::write_packed(store, buffer); }
+
 // The first number is a name's.
 static bool takes_name(Op op)
 {
@@ -195,6 +208,18 @@ Answer answer_of(Store &store, const Call &call)
         return read_line(store, call.a, call.b);
     case Op::read_row:
         return read_row(store, call.a);
+    case Op::write_packed:
+        return write_packed(store, call.bytes);
+    case Op::read_packed:
+        return packed_text::read_packed(store, call.bytes);
     }
     return {};
+}
+
+std::string left_of(const Store &store, const Call &call)
+{
+    std::string bytes = call.bytes;
+    if (call.op == Op::write_packed)
+        packed_text::write_packed(store, bytes);
+    return bytes;
 }

@@ -1,4 +1,4 @@
-// The thirteen calls on a store, from docs/SPEC.md: the number and the places that each gives, and what it does to the store.
+// The fifteen calls on a store, from docs/SPEC.md: the number and the places that each gives, and what it does to the store.
 #pragma once
 
 #include "store.h"
@@ -19,13 +19,15 @@ enum class Op {
     read_name,
     read_line,
     read_row,
+    write_packed,
+    read_packed,
 };
-constexpr size_t OPS = size_t(Op::read_row) + 1;
+constexpr size_t OPS = size_t(Op::read_packed) + 1;
 
 // What a foreign lock is placed on. All 64 bits of a kind count, so it is as wide as the call's.
 enum : uint64_t { LOCKABLE_NAME = 0, LOCKABLE_PACKED_TABLE = 1 };
 
-// A call: its bytes, if it takes any, and its numbers in order.
+// A call: its bytes, if it takes any, and its numbers in order. Of a buffer the bytes are those that stand there before.
 struct Call {
     Op op;
     std::string bytes;
@@ -52,6 +54,8 @@ inline Call rollback() { return {Op::rollback, {}}; }
 inline Call read_name(uint64_t name) { return {Op::read_name, {}, name}; }
 inline Call read_line(uint64_t name, uint64_t place) { return {Op::read_line, {}, name, place}; }
 inline Call read_row(uint64_t place) { return {Op::read_row, {}, place}; }
+inline Call write_packed(std::string_view buffer) { return {Op::write_packed, std::string(buffer)}; }
+inline Call read_packed(std::string_view text) { return {Op::read_packed, std::string(text)}; }
 } // namespace call
 
 struct Answer {
@@ -64,4 +68,7 @@ inline bool operator==(const Answer &x, const Answer &y) { return x.number == y.
 
 // What a call on a good store gives. Only a call that gives 0, 16 or 17 changes the store.
 Answer answer_of(Store &store, const Call &call);
+
+// What a call on a good store leaves of its bytes: the same, but where it writes into a buffer.
+std::string left_of(const Store &store, const Call &call);
 inline bool is_refusal(uint32_t number) { return number != 0 && number != 16 && number != 17; }

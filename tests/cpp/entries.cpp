@@ -41,7 +41,18 @@ template <typename Made> static uint32_t lend(const std::string &text, const Mad
     return lent.holds(bytes) && lent.is_alone() ? number : ~uint32_t(0);
 }
 
-static uint32_t make(const Call &call, uint8_t *region, size_t region_len, uint8_t *answer, size_t answer_len)
+// Lends a call a buffer, which it may write into if it is done.
+template <typename Made> static uint32_t lend_buffer(const std::string &before, std::string *left, const Made &made)
+{
+    const Bytes bytes(before.begin(), before.end());
+    Lent lent(bytes);
+    uint32_t number = made(before.empty() ? nullptr : lent.data(), lent.size());
+    if (left)
+        left->assign(lent.data(), lent.data() + lent.size());
+    return lent.is_alone() && (number == DEHLBAZIN_DONE || lent.holds(bytes)) ? number : ~uint32_t(0);
+}
+
+static uint32_t make(const Call &call, uint8_t *region, size_t region_len, uint8_t *answer, size_t answer_len, std::string *left)
 {
     switch (call.op) {
     case Op::start:
@@ -74,16 +85,26 @@ static uint32_t make(const Call &call, uint8_t *region, size_t region_len, uint8
         return dehlbazin_read_line(region, region_len, call.a, call.b, answer, answer_len);
     case Op::read_row:
         return dehlbazin_read_row(region, region_len, call.a, answer, answer_len);
+    case Op::write_packed:
+        return lend_buffer(call.bytes, left, [&](uint8_t *buffer, size_t buffer_len) {
+            return dehlbazin_write_packed(region, region_len, buffer, buffer_len, answer, answer_len);
+        });
+    case Op::read_packed:
+        return lend(call.bytes, [&](const uint8_t *text, size_t text_len) {
+            return dehlbazin_read_packed(region, region_len, text, text_len, answer, answer_len);
+        });
     }
     return ~uint32_t(0);
 }
 
-uint32_t run(const Call &call, uint8_t *region, size_t region_len, uint8_t *answer, size_t answer_len)
+uint32_t run(const Call &call, uint8_t *region, size_t region_len, uint8_t *answer, size_t answer_len, std::string *left)
 {
+    if (left)
+        *left = call.bytes;
     current = &call;
     current_region_len = region_len;
     current_answer_len = answer_len;
-    uint32_t number = make(call, region, region_len, answer, answer_len);
+    uint32_t number = make(call, region, region_len, answer, answer_len, left);
     current = nullptr;
     return number;
 }

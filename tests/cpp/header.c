@@ -1,5 +1,5 @@
 /* The header in C: a call, its number and a place of its answer; an edit list, built by the header's constants; a list that is
- * prepared and committed; one that arrives in fragments; and settings, written and read. */
+ * prepared and committed; one that arrives in fragments; a backup and its return; and settings, written and read. */
 #include "dehlbazin.h"
 
 #include <string.h>
@@ -78,6 +78,19 @@ uint32_t fragments_from_c(uint8_t *region, size_t region_len, const uint8_t *lis
                                       sizeof answer);
     *rows = dehlbazin_place(answer, DEHLBAZIN_CLOSE_RECEIVER_ROWS);
     return number;
+}
+
+/* Writes the packed table of one region as text, and reads it in another. Gives how many refs that are, 0 where it is refused. */
+uint64_t backup_from_c(const uint8_t *from, uint8_t *to, uint8_t *buffer, size_t buffer_len, uint32_t *number)
+{
+    uint8_t answer[DEHLBAZIN_ANSWER_SIZE];
+    size_t length;
+    *number = dehlbazin_write_packed(from, DEHLBAZIN_REGION_SIZE, buffer, buffer_len, answer, sizeof answer);
+    if (*number != DEHLBAZIN_DONE)
+        return 0;
+    length = (size_t)dehlbazin_place(answer, DEHLBAZIN_WRITE_PACKED_LENGTH);
+    *number = dehlbazin_read_packed(to, DEHLBAZIN_REGION_SIZE, buffer, length, answer, sizeof answer);
+    return dehlbazin_place(answer, DEHLBAZIN_READ_PACKED_REFS);
 }
 
 /* Writes the settings of a site, and gives the length of the record. */

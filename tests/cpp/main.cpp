@@ -43,6 +43,11 @@ static const std::pair<const char *, void (*)()> PARTS[] = {
     {"receiver_closed", test_receiver_closed},
     {"receiver_flips", test_receiver_flips},
     {"fragments", test_fragments},
+    {"packed_sizes", test_packed_sizes},
+    {"packed_write", test_packed_write},
+    {"packed_read", test_packed_read},
+    {"packed_changed", test_packed_changed},
+    {"packed_random", test_packed_random},
     {"random", test_random},
 };
 

@@ -1,8 +1,12 @@
 #include "random_calls.h"
 
 #include "commit.h"
+#include "packed_text.h"
+#include "random_texts.h"
 #include "samples.h"
 #include "writes.h"
+
+#include <algorithm>
 
 Call random_prepare(Dice &dice, const Store &s)
 {
@@ -107,6 +111,21 @@ static Call random_read(Dice &dice, const Store &s)
     }
 }
 
+Call random_write_packed(Dice &dice, const Store &s)
+{
+    const size_t length = packed_text::text_of(s).size(), less = std::min<size_t>(length, 1 + dice.below(3));
+    const size_t rooms[] = {0, dice.below(length + 1), length - less, length, length, length + 1, length + 50,
+                            packed_text::MOST_BYTES};
+    const size_t room = dice.one_of(rooms);
+    return call::write_packed(std::string(room, char(dice.any())));
+}
+
+// Of the packed table as text, written or read.
+static Call random_text_call(Dice &dice, const Store &s)
+{
+    return dice.once_in(2) ? random_write_packed(dice, s) : call::read_packed(random_text(dice, s));
+}
+
 static Call random_naming(Dice &dice, const Store &s)
 {
     uint64_t names = s.entries.size();
@@ -122,7 +141,7 @@ Call random_call(Dice &dice, const Store &s)
     uint64_t names = s.entries.size();
     if (dice.once_in(5))
         return random_transaction_call(dice, s);
-    switch (dice.below(20)) {
+    switch (dice.below(22)) {
     case 0:
         return dice.once_in(4) ? call::start(number_near(dice, 3)) : call::start(3 + dice.below(300));
     case 1:
@@ -145,6 +164,9 @@ Call random_call(Dice &dice, const Store &s)
         return random_lock_call(dice, s);
     case 15:
         return dice.once_in(20) ? call::rollback() : call::read_row(number_near(dice, s.rows.size()));
+    case 16:
+    case 17:
+        return random_text_call(dice, s);
     default:
         return random_read(dice, s);
     }

@@ -5,11 +5,12 @@
 #include "samples.h"
 #include "share.h"
 #include "tests.h"
+#include "text_samples.h"
 #include "world.h"
 
 #include <atomic>
 
-// Every call but start tests the region, so they take turns. 21 of them, an odd number, so that each meets every bit of a byte:
+// Every call but start tests the region, so they take turns. 23 of them, an odd number, so that each meets every bit of a byte:
 // prepare has three lists, one for names without a packed value, one that meets the packed table's lock, and one that meets a value
 // above a name; the second load meets one beneath; commit makes all writes, and those before the third. Locks are placed and lifted
 // by each kind, and by one that there is not: the region comes before the kind.
@@ -23,6 +24,7 @@ static std::vector<Call> calls()
         add_name("refs/heads/new"), prepare(write_list({updating(0, object(6)), deleting(3)}), 3),
         prepare(write_list({through(updating(0, object(6)))}), 1), commit(258, ~uint64_t(0)), commit(1, 2),
         prepare(write_list({log_only(deleting(5)), updating(1, link(0))}), 2), load_loose(4, BROKEN, 0),
+        write_packed(std::string(200, 'x')), read_packed(texts::text_by_git()),
     };
 }
 
@@ -42,7 +44,8 @@ struct Copy {
             wrong = "our own encoder writes other bytes";
         Answer answer = own ? answer_of(*own, call) : ::answer(1);
         record.fill(0xEE);
-        uint32_t number = run(call, region.data(), region.size(), record.data(), record.size());
+        std::string left;
+        uint32_t number = run(call, region.data(), region.size(), record.data(), record.size(), &left);
         bool places = true;
         for (size_t i = 0; i < record.size(); i++)
             places &= record.data()[i] == uint8_t(answer.places[i / 8] >> (56 - 8 * (i % 8)));
@@ -50,6 +53,8 @@ struct Copy {
             wrong = "number " + std::to_string(number) + " instead of " + std::to_string(answer.number);
         else if (!places)
             wrong = "the record";
+        else if (left != (own ? left_of(*own, call) : call.bytes))
+            wrong = "the buffer";
         else if (!region.holds(own ? encode(*own) : wanted))
             wrong = "the region";
         else if (!region.is_alone() || !record.is_alone())

@@ -1,28 +1,33 @@
-// The header: its constants are those of docs/SPEC.md, docs/LAYOUT.md, docs/SETTINGS.md and docs/ABI.md, its reader of places is
-// right, and it serves C.
+// The header: its constants are those of docs/SPEC.md, docs/LAYOUT.md, docs/PACKED-TEXT.md, docs/SETTINGS.md and docs/ABI.md, its
+// entries are those of this list, its reader of places is right, and it serves C.
 #include "calls.h"
 #include "check.h"
 #include "dehlbazin.h"
 #include "image.h"
 #include "lent.h"
+#include "packed_text.h"
 #include "receiver.h"
 #include "samples.h"
 #include "settings_samples.h"
 #include "tests.h"
+#include "text_samples.h"
 
 #include <algorithm>
+#include <fstream>
+#include <set>
 
 extern "C" uint64_t first_name_from_c(uint8_t *region, size_t region_len, uint32_t *number);
 extern "C" size_t list_from_c(uint8_t *list);
 extern "C" uint32_t move_from_c(uint8_t *region, size_t region_len, const uint8_t *list, size_t list_len, uint64_t *writes);
 extern "C" uint32_t fragments_from_c(uint8_t *region, size_t region_len, const uint8_t *list, size_t list_len, uint64_t *rows);
+extern "C" uint64_t backup_from_c(const uint8_t *from, uint8_t *to, uint8_t *buffer, size_t buffer_len, uint32_t *number);
 extern "C" size_t settings_from_c(uint8_t *buffer, size_t buffer_len, uint32_t *number);
 extern "C" uint64_t site_from_c(uint8_t *region, size_t region_len, const uint8_t *record, size_t record_len, uint32_t *number);
 
-#if DEHLBAZIN_VERSION != 9000
-#error "the version is not 0.9.0, or #if cannot read it"
+#if DEHLBAZIN_VERSION != 10000
+#error "the version is not 0.10.0, or #if cannot read it"
 #endif
-static_assert(DEHLBAZIN_VERSION_MAJOR == 0 && DEHLBAZIN_VERSION_MINOR == 9 && DEHLBAZIN_VERSION_PATCH == 0);
+static_assert(DEHLBAZIN_VERSION_MAJOR == 0 && DEHLBAZIN_VERSION_MINOR == 10 && DEHLBAZIN_VERSION_PATCH == 0);
 static_assert(DEHLBAZIN_LAYOUT_VERSION == 1);
 static_assert(DEHLBAZIN_REGION_SIZE == REGION && DEHLBAZIN_ANSWER_SIZE == 16 * 8);
 static_assert(DEHLBAZIN_RECEIVER_SIZE == 870 && DEHLBAZIN_RECEIVER_SIZE == receiver::SIZE);
@@ -36,7 +41,7 @@ static_assert(DEHLBAZIN_WRONG_STATE == 15 && DEHLBAZIN_NO_COMMITTER == 16 && DEH
 static_assert(DEHLBAZIN_BAD_NAME == 18 && DEHLBAZIN_NAMES_FULL == 19 && DEHLBAZIN_WRONG_LOCK == 20);
 static_assert(DEHLBAZIN_BAD_LOAD == 21 && DEHLBAZIN_NOTHING_THERE == 22 && DEHLBAZIN_MALFORMED_RECORD == 23);
 static_assert(DEHLBAZIN_UNKNOWN_VERSION == 24 && DEHLBAZIN_NAME_CONFLICT == 25 && DEHLBAZIN_RECEIVER_FULL == 26);
-static_assert(DEHLBAZIN_SHORT_BUFFER == 33);
+static_assert(DEHLBAZIN_MALFORMED_LINE == 27 && DEHLBAZIN_TEXT_TOO_LONG == 32 && DEHLBAZIN_SHORT_BUFFER == 33);
 
 static_assert(DEHLBAZIN_SETTING_NEVER == 0 && DEHLBAZIN_SETTING_NORMAL == 1 && DEHLBAZIN_SETTING_ALWAYS == 2);
 static_assert(DEHLBAZIN_KIND_NONE == NONE && DEHLBAZIN_KIND_OBJECT == OBJECT);
@@ -67,6 +72,9 @@ static_assert(DEHLBAZIN_RECEIVER_AT_COUNT == 0 && DEHLBAZIN_RECEIVER_AT_BYTES ==
 static_assert(DEHLBAZIN_RECEIVER_AT_BYTES == 2 && DEHLBAZIN_LIST_MOST_BYTES == receiver::ROOM);
 static_assert(DEHLBAZIN_RECEIVER_AT_BYTES + DEHLBAZIN_LIST_MOST_BYTES == DEHLBAZIN_RECEIVER_SIZE);
 
+static_assert(DEHLBAZIN_PACKED_TEXT_DIGITS == packed_text::DIGITS && DEHLBAZIN_PACKED_TEXT_DIGITS == 24 + 16);
+static_assert(DEHLBAZIN_PACKED_TEXT_MOST_BYTES == packed_text::MOST_BYTES && packed_text::MOST_BYTES == 27136);
+
 static_assert(DEHLBAZIN_SETTINGS_VERSION_1 == settings::VERSION_1 && DEHLBAZIN_SETTINGS_VERSION_2 == settings::VERSION_2);
 static_assert(DEHLBAZIN_SETTINGS_MOST_COMMITTERS == settings::MOST_COMMITTERS);
 static_assert(DEHLBAZIN_SETTINGS_MOST_NAME_BYTES == settings::MOST_NAME);
@@ -83,6 +91,24 @@ static void test_place()
     check(dehlbazin_place(record.data(), 15) == 0xF8F9FAFBFCFDFEFF, "place 15");
     for (size_t past : {size_t(16), size_t(17), SIZE_MAX / 8, SIZE_MAX / 8 + 1, SIZE_MAX / 8 + 16, SIZE_MAX - 1, SIZE_MAX})
         check(dehlbazin_place(record.data(), past) == 0, "place " + std::to_string(past) + " is not 0");
+}
+
+// The header is read as text: an entry begins a line, with its type and its name.
+static void test_entries()
+{
+    const std::set<std::string> stated = {
+        "start", "add_name", "name_bytes", "load_loose", "load_packed", "place_lock", "lift_lock", "prepare", "commit", "rollback",
+        "read_name", "read_line", "read_row", "write_packed", "read_packed", "fresh_receiver", "take_fragment", "close_receiver",
+        "start_with_settings", "read_settings", "read_committer", "write_settings",
+    };
+    check(stated.size() == 22, "22 entries");
+    std::ifstream header("include/dehlbazin.h");
+    const std::string begin = "uint32_t dehlbazin_";
+    std::multiset<std::string> declared;
+    for (std::string line; std::getline(header, line);)
+        if (line.rfind(begin, 0) == 0)
+            declared.insert(line.substr(begin.size(), line.find('(') - begin.size()));
+    check(declared == std::multiset<std::string>(stated.begin(), stated.end()), "the header's entries are others");
 }
 
 // Byte 0 of an image is the layout's version, in one that the archive writes and in our own.
@@ -290,6 +316,41 @@ static void test_fragments_from_c()
     check(rows == 2 && region.holds(encode(after)), "what is prepared from C");
 }
 
+// The places of the calls of the packed table's text, and of its refusals.
+static void test_text_places()
+{
+    const std::string text = texts::text_of_shelves(), wrong = texts::HEADER + "x\n";
+    Bytes region = encode(texts::shelves()), answer(DEHLBAZIN_ANSWER_SIZE), buffer(DEHLBAZIN_PACKED_TEXT_MOST_BYTES);
+    auto reads = [&](const std::string &lines) {
+        const uint8_t *bytes = reinterpret_cast<const uint8_t *>(lines.data());
+        return dehlbazin_read_packed(region.data(), region.size(), bytes, lines.size(), answer.data(), answer.size());
+    };
+    auto writes = [&](size_t room) {
+        return dehlbazin_write_packed(region.data(), region.size(), buffer.data(), room, answer.data(), answer.size());
+    };
+    uint32_t number = writes(buffer.size());
+    check(place_of(number, answer, DEHLBAZIN_WRITE_PACKED_LENGTH) == 180, "the length of a text");
+    check(writes(179) == DEHLBAZIN_TEXT_TOO_LONG && answer == Bytes(DEHLBAZIN_ANSWER_SIZE, 0), "a text that is too long");
+    number = reads(text);
+    check(place_of(number, answer, DEHLBAZIN_READ_PACKED_REFS) == 3, "how many refs were read");
+    check(reads(wrong) == DEHLBAZIN_MALFORMED_LINE, "a malformed line");
+    check(dehlbazin_place(answer.data(), DEHLBAZIN_MALFORMED_LINE_NUMBER) == 2, "the number of a malformed line");
+    check(reads(texts::ref(0, "refs/x")) == DEHLBAZIN_BAD_LOAD && answer == Bytes(DEHLBAZIN_ANSWER_SIZE, 0), "object 0");
+}
+
+// A backup that C makes of one region, and brings back in another.
+static void test_backup_from_c()
+{
+    Lent from(encode(texts::shelves())), to(encode(Store{})), buffer(200, 0xEE);
+    uint32_t number = 99;
+    check(backup_from_c(from.data(), to.data(), buffer.data(), 179, &number) == 0, "a buffer that is too short, from C");
+    check(number == DEHLBAZIN_TEXT_TOO_LONG && buffer.is_filled(0xEE) && to.holds(encode(Store{})), "it is refused, from C");
+    check(backup_from_c(from.data(), to.data(), buffer.data(), buffer.size(), &number) == 3, "three refs from C");
+    Store after;
+    answer_of(after, call::read_packed(texts::text_of_shelves()));
+    check(number == DEHLBAZIN_DONE && to.holds(encode(after)) && from.holds(encode(texts::shelves())), "the regions from C");
+}
+
 // The places of the settings record's calls.
 static void test_settings_places()
 {
@@ -330,8 +391,11 @@ static void test_settings_from_c()
 
 void test_header()
 {
+    test_entries();
     test_settings_places();
     test_settings_from_c();
+    test_text_places();
+    test_backup_from_c();
     test_place();
     test_layout_version();
     test_name_places();

@@ -31,7 +31,7 @@ static void test_walks()
                 arrivals.step(dice, dock, dice.once_in(2) ? first : second);
             }
     }
-    calls.all_met("random calls but prepare and commit", {0, 2, 3, 15, 18, 19, 20, 21, 22});
+    calls.all_met("random calls but prepare and commit", {0, 2, 3, 15, 18, 19, 20, 21, 22, 27, 32});
     preparations.all_met("prepare among random calls", {0, 2, 3, 4, 6, 7, 8, 9, 10, 11, 12, 13, 14, 15, 25});
     commits.all_met("commit among random calls", {0, 2, 15, 16, 17});
     arrived.all_met("among random calls");

@@ -43,11 +43,11 @@ struct Locking {
     }
 };
 
-// What came in all sequences: how often each call was done, which numbers were given, those of prepare and of commit apart, where
-// values were found, how often names above and beneath others mattered, and what came to the receivers.
+// What came in all sequences: how often each call was done, which numbers were given, those of prepare, of commit and of texts
+// apart, where values were found, how often names above and beneath others mattered, and what came to the receivers.
 struct Met {
     std::atomic<size_t> done[OPS] = {};
-    Tally calls, preparations, commits, starts;
+    Tally calls, preparations, commits, starts, text_readings, text_writings;
     Locking locking;
     Tally name_places, row_places, unseen; // the last of rows that do not see what is packed, where read_name would
     Nearness near;
@@ -57,6 +57,10 @@ struct Met {
     {
         Tally &tally = call.op == Op::prepare ? preparations : call.op == Op::commit ? commits : calls;
         tally.given[number]++;
+        if (call.op == Op::read_packed)
+            text_readings.add(number);
+        if (call.op == Op::write_packed)
+            text_writings.add(number);
         locking.add(call, number);
         if (number == 0)
             done[size_t(call.op)]++;
@@ -78,7 +82,9 @@ struct Met {
 
     void all_met() const
     {
-        calls.all_met("sequences, but for prepare and commit,", {0, 2, 3, 15, 18, 19, 20, 21, 22});
+        calls.all_met("sequences, but for prepare and commit,", {0, 2, 3, 15, 18, 19, 20, 21, 22, 27, 32});
+        text_readings.all_met("texts read in sequences", {0, 15, 21, 27});
+        text_writings.all_met("texts written in sequences", {0, 32});
         preparations.all_met("prepare in sequences", {0, 2, 3, 4, 6, 7, 8, 9, 10, 11, 12, 13, 14, 15, 25});
         commits.all_met("commit in sequences", {0, 2, 15, 16, 17});
         starts.all_met("start with settings in sequences", {0, 23, 24});

@@ -4,6 +4,7 @@
 #include "samples.h"
 #include "settings_samples.h"
 #include "tests.h"
+#include "text_samples.h"
 #include "world.h"
 
 #include <algorithm>
@@ -25,6 +26,8 @@ static std::vector<Call> calls()
         prepare(list, 1), prepare(list, 4), prepare("", 1), prepare(write_list({}), 2), prepare(repeated, 3),
         commit(1, 5), commit(0, 0), commit(65536, 1),
         read_name(1), read_name(65536), read_line(0, 1), read_line(0, 3), read_row(0), read_row(~uint64_t(0)),
+        write_packed(std::string(200, 'x')), write_packed("x"), write_packed(""), read_packed(texts::text_of_shelves()),
+        read_packed("x"), read_packed(""), read_packed(texts::ref(0, "refs/x")),
     };
 }
 
@@ -237,15 +240,18 @@ static void test_only_read()
 {
     for (const Store &store : {busy(), prepared()})
         for (const Call &call : calls()) {
-            if (call.op != Op::name_bytes && call.op != Op::read_name && call.op != Op::read_line && call.op != Op::read_row)
+            if (call.op != Op::name_bytes && call.op != Op::read_name && call.op != Op::read_line && call.op != Op::read_row &&
+                call.op != Op::write_packed)
                 continue;
             Lent region(encode(store)), record(ANSWER, OLD);
             region.only_read();
-            uint32_t number = run(call, region.data(), region.size(), record.data(), record.size());
+            std::string left;
+            uint32_t number = run(call, region.data(), region.size(), record.data(), record.size(), &left);
             Store same = store;
             Answer wanted = answer_of(same, call);
             check(number == wanted.number, describe(call) + " in memory that can only be read");
             check(dehlbazin_place(record.data(), 0) == wanted.places[0], describe(call) + " in memory that can only be read");
+            check(left == left_of(store, call), describe(call) + " in memory that can only be read: the buffer");
         }
 }
 

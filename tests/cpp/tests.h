@@ -34,5 +34,10 @@ void test_receiver_sizes();
 void test_receiver_closed();
 void test_receiver_flips();
 void test_fragments();
+void test_packed_sizes();
+void test_packed_write();
+void test_packed_read();
+void test_packed_changed();
+void test_packed_random();
 void test_sequences(size_t count, uint64_t seed);
 void test_flips(size_t every); // turns over one bit of each so many

@@ -37,6 +37,12 @@ static bool check_bytes(const Lent &found, const Bytes &wanted, const std::strin
 
 World::World(const Store &store) : own(store), lent(encode(store)), record(ANSWER, OLD) {}
 
+void World::is_now(const Store &store)
+{
+    own = store;
+    is_wrong = true;
+}
+
 void World::begin()
 {
     if (is_wrong)
@@ -62,8 +68,13 @@ Answer World::agrees(const Call &call, At at)
 {
     begin();
     Answer wanted = answer_of(own, call);
-    given = run(call, lent.data(), lent.size(), record.data(), record.size());
+    std::string left;
+    given = run(call, lent.data(), lent.size(), record.data(), record.size(), &left);
     compare(describe(call), wanted, at);
+    if (call.op == Op::write_packed) {
+        check(left == left_of(own, call), describe(call) + ": the buffer", at);
+        written = left;
+    }
     return wanted;
 }
 

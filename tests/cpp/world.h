@@ -27,11 +27,15 @@ public:
 
     const Store &store() const { return own; }
 
-    // What the archive itself gave to the last call and left of the region, right or wrong. The next call begins with the bytes
-    // of our own store again, so that one failure makes no others.
+    // From now on this is the store: the next call begins with its bytes.
+    void is_now(const Store &store);
+
+    // What the archive itself gave to the last call and left of the region, and of the buffer of the last call that had one, right
+    // or wrong. The next call begins with the bytes of our own store again, so that one failure makes no others.
     uint32_t number() const { return given; }
     uint64_t place(size_t i) const;
     const Lent &region() const { return lent; }
+    const std::string &buffer() const { return written; }
 
 private:
     void begin();
@@ -39,6 +43,7 @@ private:
 
     Store own;
     Lent lent, record;
+    std::string written;
     uint32_t given = 0;
     bool is_wrong = false;
 };

@@ -45,6 +45,11 @@ impl Answer {
         Message::new(self.place(i)).ok()
     }
 
+    /// The number of a line, which is counted from 1.
+    pub(crate) fn line(&self, i: usize) -> Option<u64> {
+        Some(self.place(i)).filter(|&line| line > 0)
+    }
+
     pub(crate) fn setting(&self, i: usize) -> Option<Setting> {
         Setting::of(self.place(i))
     }

@@ -1,13 +1,14 @@
-//! The twenty entries of the archive, and the only `unsafe` of this crate: they are declared here, and each is called here
+//! The twenty-two entries of the archive, and the only `unsafe` of this crate: they are declared here, and each is called here
 //! from a function that is safe to call.
 //!
 //! Three things hold of every call below, which the archive cannot test (include/dehlbazin.h):
 //! - Each pointer is good for the length beside it, since both are taken from one reference.
 //! - What is lent lies apart. The region is borrowed alone (`&mut`) where the call writes it, so that no other reference leads
-//!   into it. Where the call only reads it (`&`), nothing that is written is lent beside it but the answer record. That is a
-//!   new array of [`ask`], which nobody else knows. With a settings record it is the same: the buffer that one is written to
-//!   is borrowed alone, and beside one that is read nothing else is written. A receiver is always borrowed alone, so that the
-//!   fragment that it takes, and the region that it is closed on, lie elsewhere.
+//!   into it. Where the call only reads it (`&`), nothing that is written is lent beside it but the answer record, and the
+//!   buffer for a packed table's text, which is borrowed alone. The answer record is a new array of [`ask`], which nobody else
+//!   knows. With a settings record it is the same: the buffer that one is written to is borrowed alone, and beside one that is
+//!   read nothing else is written. A receiver is always borrowed alone, so that the fragment that it takes, and the region that
+//!   it is closed on, lie elsewhere.
 //! - Calls on one region or on one receiver come one after the other, for the same reason: `&mut` is held by one at a time, and
 //!   calls that only read do not disturb each other.
 //!
@@ -23,6 +24,9 @@ pub const REGION_SIZE: usize = 49_549;
 
 /// The size of a receiver: how many bytes it holds, in 2, and room for the longest list.
 pub const RECEIVER_SIZE: usize = 870;
+
+/// The length of the longest text of a packed table. A buffer of so many bytes is never too short for one.
+pub const PACKED_TEXT_MOST_BYTES: usize = 27_136;
 
 extern "C" {
     fn dehlbazin_start(region: *mut u8, region_len: usize, setting: u64, answer: *mut u8, answer_len: usize) -> u32;
@@ -97,6 +101,22 @@ extern "C" {
         answer_len: usize,
     ) -> u32;
     fn dehlbazin_read_row(region: *const u8, region_len: usize, place: u64, answer: *mut u8, answer_len: usize) -> u32;
+    fn dehlbazin_write_packed(
+        region: *const u8,
+        region_len: usize,
+        buffer: *mut u8,
+        buffer_len: usize,
+        answer: *mut u8,
+        answer_len: usize,
+    ) -> u32;
+    fn dehlbazin_read_packed(
+        region: *mut u8,
+        region_len: usize,
+        text: *const u8,
+        text_len: usize,
+        answer: *mut u8,
+        answer_len: usize,
+    ) -> u32;
     fn dehlbazin_fresh_receiver(receiver: *mut u8, receiver_len: usize, answer: *mut u8, answer_len: usize) -> u32;
     fn dehlbazin_take_fragment(
         receiver: *mut u8,
@@ -223,6 +243,19 @@ pub(crate) fn read_line(region: &Region, name: u64, place: u64) -> Answer {
 pub(crate) fn read_row(region: &Region, place: u64) -> Answer {
     // SAFETY: the region is only read, and the record is ask's own.
     ask(|answer, len| unsafe { dehlbazin_read_row(region.as_ptr(), REGION_SIZE, place, answer, len) })
+}
+
+pub(crate) fn write_packed(region: &Region, buffer: &mut [u8]) -> Answer {
+    let (at, size) = (buffer.as_mut_ptr(), buffer.len());
+    // SAFETY: the region is only read. The buffer is borrowed alone, so it lies elsewhere, and the record is ask's own.
+    ask(|answer, len| unsafe { dehlbazin_write_packed(region.as_ptr(), REGION_SIZE, at, size, answer, len) })
+}
+
+pub(crate) fn read_packed(region: &mut Region, text: &[u8]) -> Answer {
+    let (at, size) = (text.as_ptr(), text.len());
+    // SAFETY: the region is borrowed alone, so the text's bytes lie elsewhere; of no bytes none is read. The record is ask's
+    // own.
+    ask(|answer, len| unsafe { dehlbazin_read_packed(region.as_mut_ptr(), REGION_SIZE, at, size, answer, len) })
 }
 
 pub(crate) fn fresh_receiver(receiver: &mut ReceiverBytes) -> Answer {

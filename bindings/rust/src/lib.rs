@@ -28,6 +28,8 @@
 //! - What a name reads is [`Found`] in a [`Place`]: loose, packed, or neither, and perhaps behind a loose value that is broken.
 //!   A [`Row`] has the place of what prepare found.
 //! - What another program holds has a foreign lock: it is placed on a [`Lockable`], a name or the packed table.
+//! - The packed table has a text, in the lines of git's packed-refs file: a [`View`] writes it, and [`Store::read_packed`] puts
+//!   what a text says in the place of the whole table. That is a backup and its return.
 //! - A list that arrives in fragments is collected by a [`Receiver`]. Closing it prepares the list, as if it had come whole.
 //! - What a site keeps between runs is a record of its own: [`Settings`] are written to one, a [`SettingsView`] reads it, and
 //!   a store is started with it.
@@ -55,7 +57,7 @@ mod walk;
 mod words;
 
 pub use edit::{Change, EditList, LogChange, PackedRefs, PreviousValue, RefEdit, RefLog};
-pub use entries::{RECEIVER_SIZE, REGION_SIZE};
+pub use entries::{PACKED_TEXT_MOST_BYTES, RECEIVER_SIZE, REGION_SIZE};
 pub use found::{Found, Place};
 pub use lockable::Lockable;
 pub use numbers::{Committer, Message, NameNumber, ObjectNumber, Site};
@@ -76,5 +78,5 @@ pub type Region = [u8; REGION_SIZE];
 /// [`Receiver::fresh_in`].
 pub type ReceiverBytes = [u8; RECEIVER_SIZE];
 
-/// The version of the interface that this crate was written for, as `DEHLBAZIN_VERSION` of include/dehlbazin.h has it: 0.9.0.
-pub const VERSION: u32 = 9000;
+/// The version of the interface that this crate was written for, as `DEHLBAZIN_VERSION` of include/dehlbazin.h has it: 0.10.0.
+pub const VERSION: u32 = 10_000;

@@ -114,6 +114,13 @@ pub enum Refusal {
     },
     /// 26: a fragment that is longer than the room that is left in the receiver.
     ReceiverFull,
+    /// 27: a line of a packed table's text is malformed.
+    MalformedLine {
+        /// Its number, from 1. Every line counts.
+        line: u64,
+    },
+    /// 32: a buffer that is shorter than the packed table's text.
+    TextTooLong,
     /// 33: a buffer that is shorter than the settings record to be written there.
     ShortBuffer,
     /// The archive gave what this crate does not know: it is of another version.
@@ -155,6 +162,8 @@ impl Refusal {
             24 => Refusal::UnknownVersion,
             25 => Refusal::NameConflict { name: answer.name(0)? },
             26 => Refusal::ReceiverFull,
+            27 => Refusal::MalformedLine { line: answer.line(0)? },
+            32 => Refusal::TextTooLong,
             33 => Refusal::ShortBuffer,
             _ => return None,
         })
@@ -187,6 +196,8 @@ impl Refusal {
             Refusal::UnknownVersion => 24,
             Refusal::NameConflict { .. } => 25,
             Refusal::ReceiverFull => 26,
+            Refusal::MalformedLine { .. } => 27,
+            Refusal::TextTooLong => 32,
             Refusal::ShortBuffer => 33,
             Refusal::Unexpected { number } => number,
         }

@@ -224,6 +224,49 @@ impl Store<'_> {
         entries::load_packed(self.region, name.get(), kind, number).done()
     }
 
+    /// Reads a text, puts what it says in the place of the whole packed table, and says how many refs were read. A name that
+    /// the text does not have has no packed value then, and one that is not known is added. Loose values, locks, logs and the
+    /// numbers of names stay as they are, and no lock is looked at. A text of no bytes is an empty table.
+    ///
+    /// The first line at fault decides, and then nothing is changed. Refused with 27 where it is malformed, or its name does
+    /// not stand behind that of the ref line before it; with 21 for object 0, and for a name that is not packable; with 19 for
+    /// a new name where 256 are held.
+    ///
+    /// ```
+    /// use dehlbazin::{Refusal, Setting, Store};
+    ///
+    /// let mut region = vec![0; dehlbazin::REGION_SIZE];
+    /// let mut store = Store::start_in(&mut region, Setting::Normal)?;
+    /// // As git writes it: with a header, and with a line of its own for the object that a tag names.
+    /// let text = "# pack-refs with: peeled fully-peeled sorted \n\
+    ///             0000000000000000000000000000000000000007 refs/heads/aisle\n\
+    ///             0000000000000000000000000000000000000003 refs/tags/spring\n\
+    ///             ^8f3a52c0d1e6b7948f3a52c0d1e6b7948f3a52c0\n";
+    /// assert_eq!(store.read_packed(text)?, 2);
+    /// assert_eq!(store.names().map(|name| name.text).collect::<Vec<_>>(), ["refs/heads/aisle", "refs/tags/spring"]);
+    ///
+    /// // A text that was cut is refused by the line that is not whole, and the table stays.
+    /// let kept = store.packed_text()?;
+    /// assert_eq!(store.read_packed(&text[..150]), Err(Refusal::MalformedLine { line: 3 }));
+    /// assert_eq!(store.packed_text()?, kept);
+    /// # Ok::<(), Refusal>(())
+    /// ```
+    ///
+    /// While a transaction is prepared no text is read: it borrows the store. One that was left prepared in the region makes it
+    /// refused with 15.
+    ///
+    /// ```compile_fail,E0499
+    /// # use dehlbazin::{EditList, PackedRefs, Refusal, Store};
+    /// # fn service(store: &mut Store<'_>) -> Result<u64, Refusal> {
+    /// let transaction = store.prepare(&EditList::new(), PackedRefs::DeletionsOnly)?;
+    /// store.read_packed("")?; // does not compile
+    /// transaction.rollback()
+    /// # }
+    /// ```
+    pub fn read_packed(&mut self, text: impl AsRef<[u8]>) -> Result<u64, Refusal> {
+        entries::read_packed(self.region, text.as_ref()).given(|answer| Some(answer.place(0)))
+    }
+
     /// Places a foreign lock on a name or on the packed table: another program holds it. Refused with 3 where there is no such
     /// name, with 20 where the lock is not free.
     pub fn place_lock(&mut self, what: impl Into<Lockable>) -> Result<(), Refusal> {
@@ -304,6 +347,17 @@ impl Store<'_> {
     /// A row of the prepared transaction, from place 0.
     pub fn read_row(&self, place: u64) -> Result<Row, Refusal> {
         self.view().read_row(place)
+    }
+
+    /// Writes the packed table as text to the beginning of a buffer, and says how many bytes it has. Refused with 32 where the
+    /// buffer is shorter.
+    pub fn write_packed(&self, buffer: &mut [u8]) -> Result<usize, Refusal> {
+        self.view().write_packed(buffer)
+    }
+
+    /// The same text in bytes of its own, which are always enough.
+    pub fn packed_text(&self) -> Result<Vec<u8>, Refusal> {
+        self.view().packed_text()
     }
 
     /// The names, in the order in which they were added.

@@ -4,7 +4,7 @@ use crate::answer::Answer;
 use crate::edit::{ROW_DELETE, ROW_UPDATE};
 use crate::{
     entries, Change, Committer, Found, LogChange, Message, NameNumber, ObjectNumber, Place, PreviousValue, RefLog, Refusal,
-    Region,
+    Region, PACKED_TEXT_MOST_BYTES,
 };
 
 /// A line of a name's log.
@@ -119,6 +119,38 @@ impl<'a> View<'a> {
     /// A row of the prepared transaction, from place 0.
     pub fn read_row(self, place: u64) -> Result<Row, Refusal> {
         entries::read_row(self.region, place).given(row_of)
+    }
+
+    /// Writes the packed table as text to the beginning of a buffer, and says how many bytes it has: a line for each name that
+    /// has a packed value, in byte order of the names, as git's packed-refs file has them. Bytes past the text stay as they
+    /// are. It looks at no lock, and a transaction may be prepared. Refused with 32 where the buffer is shorter than the text,
+    /// and then no byte of it is changed; one of [`PACKED_TEXT_MOST_BYTES`] never is.
+    ///
+    /// ```
+    /// use dehlbazin::{ObjectNumber, Refusal, Setting, Store};
+    ///
+    /// let mut region = vec![0; dehlbazin::REGION_SIZE];
+    /// let mut store = Store::start_in(&mut region, Setting::Normal)?;
+    /// let aisle = store.add_name("refs/heads/aisle")?;
+    /// store.load_packed(aisle, ObjectNumber::new(0x2a)?)?;
+    ///
+    /// let mut buffer = [0; dehlbazin::PACKED_TEXT_MOST_BYTES];
+    /// let length = store.write_packed(&mut buffer)?;
+    /// assert_eq!(&buffer[..length], b"000000000000000000000000000000000000002a refs/heads/aisle\n");
+    /// assert_eq!(store.write_packed(&mut buffer[..length - 1]), Err(Refusal::TextTooLong));
+    /// # Ok::<(), Refusal>(())
+    /// ```
+    pub fn write_packed(self, buffer: &mut [u8]) -> Result<usize, Refusal> {
+        let answer = entries::write_packed(self.region, buffer);
+        answer.given(|answer| usize::try_from(answer.place(0)).ok().filter(|&length| length <= buffer.len()))
+    }
+
+    /// The same text in bytes of its own, which are always enough.
+    pub fn packed_text(self) -> Result<Vec<u8>, Refusal> {
+        let mut text = vec![0; PACKED_TEXT_MOST_BYTES];
+        let length = self.write_packed(&mut text)?;
+        text.truncate(length);
+        Ok(text)
     }
 }
 

@@ -128,6 +128,7 @@ impl Speaker<'_> {
     fn refusal(&self, f: &mut Formatter<'_>, refusal: Refusal) -> Result {
         match refusal {
             Refusal::NotRegistered { number } => write!(f, "name {number}: no name has this number"),
+            Refusal::MalformedLine { line } => write!(f, "line {line}: {}", of_nothing(refusal)),
             Refusal::MultipleEdits { name }
             | Refusal::LockAcquire { name }
             | Refusal::DeleteReferenceMustExist { name }
@@ -199,6 +200,8 @@ fn of_nothing(refusal: Refusal) -> &'static str {
         Refusal::UnknownVersion => "the settings record has a version that is not known",
         Refusal::NameConflict { .. } => "a name above or beneath it has a loose value, or would get one",
         Refusal::ReceiverFull => "the fragment is longer than the room that is left in the receiver",
+        Refusal::MalformedLine { .. } => "this line of the packed table's text is malformed",
+        Refusal::TextTooLong => "the buffer is shorter than the packed table's text",
         Refusal::ShortBuffer => "the buffer is shorter than the settings record",
         Refusal::NotRegistered { .. } => "no name has this number",
         Refusal::MustNotExist { .. } | Refusal::MustExist { .. } | Refusal::ReferenceOutOfDate { .. } => {

@@ -2,6 +2,7 @@
 // what is wrong. Each argument names a file with one region; with no argument it is standard input.
 mod input;
 mod judge;
+mod packed;
 mod store;
 
 fn main() {

@@ -1,6 +1,7 @@
 // A good region.
 ghost use Rattle.model.specs.Fine.{Fine};
 ghost use Rattle.region.specs.Region.{view, Laid};
+use crate::packed;
 use listing::entries;
 use listing::log;
 use outlook::prepared;
@@ -26,6 +27,7 @@ pub fn all(region: &[u8])
 {
     head(region);
     entries::all(region);
+    packed::all(region);
     log::all(region);
     prepared::all(region);
 }

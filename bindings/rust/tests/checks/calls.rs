@@ -1,4 +1,4 @@
-//! Each of the thirteen calls of docs/SPEC.md, done and refused, through its typed form.
+//! Each of the fifteen calls of docs/SPEC.md, done and refused, through its typed form.
 
 use crate::site::*;
 use crate::tally::*;
@@ -98,6 +98,37 @@ fn loads() {
     done(store.prepare(&EditList::new(), MODE)).leave_prepared();
     refused(store.load_loose(AISLE, largest), Refusal::WrongState);
     refused(store.load_packed(AISLE, three), Refusal::WrongState);
+}
+
+/// The two of a packed table's text; there is more of them in texts.rs.
+fn packed() {
+    let mut region = site(&["HEAD", "refs/heads/aisle"]);
+    let mut store = done(Store::open(&mut region));
+    let mut buffer = [0; 64];
+    same(store.write_packed(&mut buffer), Ok(0));
+    done(store.load_packed(AISLE, ObjectNumber::new(0xabc).unwrap()));
+    let line = b"0000000000000000000000000000000000000abc refs/heads/aisle\n";
+    same(store.write_packed(&mut buffer), Ok(line.len()));
+    same(&buffer[..line.len()], &line[..]);
+    same(store.packed_text(), Ok(line.to_vec()));
+    refused(store.write_packed(&mut buffer[..line.len() - 1]), Refusal::TextTooLong);
+    done(store.load_packed(AISLE, None));
+    same(store.read_packed(line), Ok(1));
+    same(store.read_name(AISLE), found(object(0xabc), Place::Packed));
+    refused(store.read_packed([&line[..], b"\n"].concat()), Refusal::MalformedLine { line: 2 });
+    refused(store.read_packed(format!("{:040} refs/x\n", 0)), Refusal::BadLoad);
+    refused(store.read_packed(format!("{:040} HEAD\n", 1)), Refusal::BadLoad);
+    same(store.read_packed(""), Ok(0));
+    same(store.read_name(AISLE), absent());
+    done(store.prepare(&EditList::new(), MODE)).leave_prepared();
+    same(store.write_packed(&mut buffer), Ok(0));
+    refused(store.read_packed(line), Refusal::WrongState);
+    same(store.rollback(), Ok(0));
+    for n in 2..256 {
+        done(store.add_name(format!("refs/n/{n}")));
+    }
+    refused(store.read_packed(format!("{:040} refs/n/256\n", 1)), Refusal::NamesFull);
+    same(store.read_packed(format!("{:040} refs/n/255\n", 1)), Ok(1));
 }
 
 fn locks() {
@@ -263,6 +294,7 @@ pub fn all() {
     open();
     names();
     loads();
+    packed();
     locks();
     prepare_values();
     prepare_beneath();

@@ -68,6 +68,7 @@ fn meanwhile() {
     done(transaction.place_lock(Lockable::PackedTable));
     done(transaction.lift_lock(Lockable::PackedTable));
     refused(transaction.lift_lock(Lockable::PackedTable), Refusal::WrongLock);
+    same(transaction.store().write_packed(&mut []), Ok(0));
     same(done(transaction.commit(planner())).writes(), 3);
     refused(store.place_lock(tag), Refusal::WrongLock); // foreign locks stay
     done(store.lift_lock(tag));

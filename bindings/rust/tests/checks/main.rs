@@ -1,8 +1,9 @@
 //! The checks of the crate, over the archive. Each comparison is counted; the last line is 'N passed, M failed'.
 //!   checks [TURNS [SEED]]   TURNS random turns are made both ways (20000 if not said), a quarter of it random settings, and as
-//!                           many turns of a receiver
+//!                           many turns of a receiver and texts of a packed table
 
 mod arrivals;
+mod backups;
 mod calls;
 mod closings;
 mod damaged;
@@ -10,6 +11,7 @@ mod dice;
 mod edits;
 mod fragments;
 mod life;
+mod lines;
 mod locks;
 mod marked;
 mod places;
@@ -21,6 +23,7 @@ mod settings;
 mod site;
 mod step;
 mod tally;
+mod texts;
 mod words;
 
 /// A part that ends early, at something that should have been done and was not, has failed once more. The others are still run.
@@ -30,7 +33,7 @@ fn run(part: &str, all: impl FnOnce() + std::panic::UnwindSafe) {
 
 fn main() {
     let numbers: Vec<u64> = std::env::args().skip(1).filter_map(|word| word.parse().ok()).collect();
-    let parts: [(&str, fn()); 10] = [
+    let parts: [(&str, fn()); 11] = [
         ("calls", calls::all),
         ("edits", edits::all),
         ("life", life::all),
@@ -41,6 +44,7 @@ fn main() {
         ("settings", settings::all),
         ("fragments", fragments::all),
         ("closings", closings::all),
+        ("texts", texts::all),
     ];
     let mut before = 0;
     let mut say = |part: &str| {
@@ -59,6 +63,8 @@ fn main() {
     say("damaged");
     run("arrivals", move || arrivals::all(turns / 4, seed));
     say("arrivals");
+    run("backups", move || backups::all(turns / 4, seed));
+    say("backups");
     let (passed, failed) = tally::counts();
     println!("{passed} passed, {failed} failed");
     std::process::exit(i32::from(failed > 0));

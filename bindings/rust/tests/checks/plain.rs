@@ -15,7 +15,7 @@ pub fn place(record: &Record, i: usize) -> u64 {
 }
 
 /// Declares an entry, and a function that lends it what it was lent: a region, bytes and a record, three references that lie
-/// apart. Those of a settings record and of a receiver take an answer record of any size.
+/// apart. Those of a packed table's text, of a settings record and of a receiver take an answer record of any size.
 macro_rules! entry {
     ($entry:ident, $name:ident, mut $(, [$bytes:ident])? $(, $number:ident)*) => {
         pub fn $name(region: &mut Region, $($bytes: &[u8],)? $($number: u64,)* record: &mut Record) -> u32 {
@@ -62,6 +62,28 @@ entry!(dehlbazin_read_line, read_line, read, name, place);
 entry!(dehlbazin_read_row, read_row, read, place);
 entry!(dehlbazin_read_settings, read_settings, settings, known);
 entry!(dehlbazin_read_committer, read_committer, settings, known, place);
+
+/// With a region and a buffer of any size.
+pub fn write_packed(region: &[u8], buffer: &mut [u8], answer: &mut [u8]) -> u32 {
+    extern "C" {
+        fn dehlbazin_write_packed(r: *const u8, l: usize, b: *mut u8, n: usize, a: *mut u8, k: usize) -> u32;
+    }
+    let (at, size) = (buffer.as_mut_ptr(), buffer.len());
+    let (answer_at, answer_size) = (answer.as_mut_ptr(), answer.len());
+    // SAFETY: each pointer is good for the length beside it.
+    unsafe { dehlbazin_write_packed(region.as_ptr(), region.len(), at, size, answer_at, answer_size) }
+}
+
+/// With a region of any size.
+pub fn read_packed(region: &mut [u8], text: &[u8], answer: &mut [u8]) -> u32 {
+    extern "C" {
+        fn dehlbazin_read_packed(r: *mut u8, l: usize, t: *const u8, n: usize, a: *mut u8, k: usize) -> u32;
+    }
+    let (at, size) = (text.as_ptr(), text.len());
+    let (answer_at, answer_size) = (answer.as_mut_ptr(), answer.len());
+    // SAFETY: each pointer is good for the length beside it.
+    unsafe { dehlbazin_read_packed(region.as_mut_ptr(), region.len(), at, size, answer_at, answer_size) }
+}
 
 /// With a receiver of any size.
 pub fn fresh_receiver(receiver: &mut [u8], answer: &mut [u8]) -> u32 {

@@ -1,6 +1,7 @@
 //! Random calls, each made through the crate and by the plain entry, on two regions that stay the same byte for byte.
 
 use crate::dice::Dice;
+use crate::lines::{is_name, name_count, ref_line};
 use crate::plain::{LOCKABLE_NAME, LOCKABLE_PACKED_TABLE};
 use crate::record::{written, Plan};
 use crate::step::*;
@@ -8,8 +9,8 @@ use crate::tally::check;
 use dehlbazin::*;
 use std::collections::BTreeMap;
 
-const KINDS: usize = 16;
-const NUMBERS: [u32; 22] = [0, 1, 3, 4, 6, 7, 8, 9, 10, 11, 12, 13, 15, 16, 17, 18, 20, 21, 22, 23, 24, 25];
+const KINDS: usize = 18;
+const NUMBERS: [u32; 24] = [0, 1, 3, 4, 6, 7, 8, 9, 10, 11, 12, 13, 15, 16, 17, 18, 20, 21, 22, 23, 24, 25, 27, 32];
 
 /// Two regions, and what was made on both.
 struct Pair {
@@ -44,6 +45,8 @@ fn kind(step: &Step) -> usize {
         Step::ReadLine(..) => 13,
         Step::ReadRow(_) => 14,
         Step::StartWith(_) => 15,
+        Step::WritePacked(_) => 16,
+        Step::ReadPacked(_) => 17,
     }
 }
 
@@ -78,6 +81,7 @@ impl Pair {
         match step {
             Step::Start(_) | Step::StartWith(_) => self.names = 0,
             Step::AddName(_) => self.names = self.names.max(plain.1[0] as u16 + 1),
+            Step::ReadPacked(_) => self.names = name_count(&self.plain) as u16,
             Step::ReadName(_) => *self.places.entry(("read_name", plain.1[2])).or_default() += 1,
             Step::ReadRow(_) => {
                 self.children += plain.1[10];
@@ -305,9 +309,24 @@ fn some_record(dice: &mut Dice) -> Vec<u8> {
     record
 }
 
+/// A text of few lines. Mostly it is sorted, and may be cut.
+fn some_text(dice: &mut Dice) -> Vec<u8> {
+    let mut names: Vec<_> = (0..dice.below(4)).map(|_| some_bytes(dice)).collect();
+    if !dice.once_in(5) {
+        names.retain(|name| name.starts_with(b"refs/") && is_name(name));
+        names.sort();
+        names.dedup();
+    }
+    let mut text: Vec<u8> = names.iter().flat_map(|name| ref_line(some_object(dice), name)).collect();
+    if dice.once_in(8) {
+        text.truncate(dice.below(text.len() as u64 + 1) as usize);
+    }
+    text
+}
+
 fn some_step_meanwhile(dice: &mut Dice, names: u16) -> Step {
     let name = some_name(dice, names);
-    match dice.below(9) {
+    match dice.below(10) {
         0 => Step::AddName(some_bytes(dice)),
         1 if dice.once_in(3) => Step::PlaceLock(named(name)),
         2 => Step::LiftLock(named(name)),
@@ -316,6 +335,7 @@ fn some_step_meanwhile(dice: &mut Dice, names: u16) -> Step {
         5 => Step::NameBytes(name),
         6 => Step::ReadName(name),
         7 => Step::ReadLine(name, dice.below(4)),
+        8 => Step::WritePacked(if dice.once_in(2) { 27_136 } else { dice.below(300) as usize }),
         _ => Step::ReadRow(dice.below(5)),
     }
 }
@@ -324,6 +344,7 @@ fn some_step(dice: &mut Dice, names: u16) -> Step {
     match dice.below(20) {
         0 if dice.once_in(20) => Step::Start(dice.below(3)),
         1 if dice.once_in(10) => Step::StartWith(some_record(dice)),
+        2 if dice.once_in(4) => Step::ReadPacked(some_text(dice)),
         0..=2 => some_load(dice, names),
         3 | 4 => some_prepare(dice, names),
         5 | 6 => {

@@ -36,6 +36,8 @@ pub enum Step {
     ReadName(u16),
     ReadLine(u16, u64),
     ReadRow(u64),
+    WritePacked(usize),
+    ReadPacked(Vec<u8>),
 }
 
 /// The number, and all 16 places.
@@ -63,8 +65,24 @@ pub fn list_bytes(edits: &[Fields]) -> Vec<u8> {
     bytes
 }
 
+/// The last place of an answer, which no call fills: of writing a text it has a sum of the whole buffer here, so that its bytes
+/// are compared too. It has none where the region is bad: then there is no store to make the call on.
+const LAST: usize = 15;
+const BAD_REGION: u32 = 1;
+
+/// A buffer to write a text into.
+fn buffer_of(size: usize) -> Vec<u8> {
+    vec![0xa5; size]
+}
+
+/// FNV-1a.
+fn sum(bytes: &[u8]) -> u64 {
+    bytes.iter().fold(0xcbf2_9ce4_8422_2325, |sum, &byte| (sum ^ u64::from(byte)).wrapping_mul(0x100_0000_01b3))
+}
+
 pub fn make_plainly(step: &Step, region: &mut Region) -> Reply {
     let mut record = [0xaa; 128]; // each place is written, so none of these stay
+    let mut buffer = if let Step::WritePacked(size) = step { buffer_of(*size) } else { Vec::new() };
     let to = &mut record;
     let number = match step {
         Step::Start(setting) => plain::start(region, *setting, to),
@@ -81,9 +99,14 @@ pub fn make_plainly(step: &Step, region: &mut Region) -> Reply {
         Step::ReadName(name) => plain::read_name(region, u64::from(*name), to),
         Step::ReadLine(name, at) => plain::read_line(region, u64::from(*name), *at, to),
         Step::ReadRow(at) => plain::read_row(region, *at, to),
+        Step::WritePacked(_) => plain::write_packed(region, &mut buffer, to),
+        Step::ReadPacked(text) => plain::read_packed(region, text, to),
     };
     let mut places = [0; 16];
     (0..16).for_each(|i| places[i] = place(&record, i));
+    if matches!(step, Step::WritePacked(_)) && number != BAD_REGION {
+        places[LAST] ^= sum(&buffer);
+    }
     (number, places)
 }
 
@@ -174,6 +197,7 @@ pub fn make(step: &Step, store: &mut Store<'_>) -> Reply {
         }
         Step::Commit(committer, allowance) => outcome(store.commit_within(committer_of(*committer), *allowance)),
         Step::Rollback => reply(store.rollback(), |rows| vec![rows]),
+        Step::ReadPacked(text) => reply(store.read_packed(text), |refs| vec![refs]),
         _ => read(step, store.view()),
     }
 }
@@ -213,6 +237,12 @@ pub fn read(step: &Step, view: View<'_>) -> Reply {
             vec![previous, line.new.get(), line.committer.get(), line.message.get()]
         }),
         Step::ReadRow(at) => reply(view.read_row(*at), row_places),
+        Step::WritePacked(size) => {
+            let mut buffer = buffer_of(*size);
+            let mut reply = reply(view.write_packed(&mut buffer), |length| vec![length as u64]);
+            reply.1[LAST] ^= sum(&buffer);
+            reply
+        }
         _ => panic!("{step:?} does not only read"),
     }
 }
@@ -250,6 +280,7 @@ fn refusal_places(refusal: Refusal) -> Vec<u64> {
     let two = |name: NameNumber, [a, b]: [u64; 2], [c, d]: [u64; 2]| vec![name.get(), a, b, c, d];
     match refusal {
         Refusal::NotRegistered { number } => vec![number],
+        Refusal::MalformedLine { line } => vec![line],
         Refusal::MultipleEdits { name }
         | Refusal::LockAcquire { name }
         | Refusal::DeleteReferenceMustExist { name }

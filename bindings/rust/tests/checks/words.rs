@@ -79,6 +79,8 @@ fn without_names() {
         (23, Refusal::MalformedRecord, "the settings record is malformed, or a setting is out of bounds"),
         (24, Refusal::UnknownVersion, "the settings record has a version that is not known"),
         (26, Refusal::ReceiverFull, "the fragment is longer than the room that is left in the receiver"),
+        (27, Refusal::MalformedLine { line: 70_001 }, "line 70001: this line of the packed table's text is malformed"),
+        (32, Refusal::TextTooLong, "the buffer is shorter than the packed table's text"),
         (33, Refusal::ShortBuffer, "the buffer is shorter than the settings record"),
         (99, Refusal::Unexpected { number: 99 }, "an answer of the archive that this crate does not know, with number 99"),
     ];
@@ -155,6 +157,8 @@ fn every() -> Vec<Refusal> {
         Refusal::UnknownVersion,
         Refusal::NameConflict { name },
         Refusal::ReceiverFull,
+        Refusal::MalformedLine { line: 1 },
+        Refusal::TextTooLong,
         Refusal::ShortBuffer,
     ]
 }
@@ -189,9 +193,10 @@ fn header() {
         same(value(&format!("LOCKABLE_{what}")).map(u64::from), Some(kind));
     }
     same(value("DONE"), Some(Outcome::AllWritten { writes: 0 }.number()));
-    same(every().len(), 25);
+    same(every().len(), 27);
     same(value("REGION_SIZE"), Some(REGION_SIZE as u32));
     same(value("RECEIVER_SIZE"), Some(RECEIVER_SIZE as u32));
+    same(value("PACKED_TEXT_MOST_BYTES"), Some(PACKED_TEXT_MOST_BYTES as u32));
     same(value("LIST_MOST_EDITS"), Some(EditList::MOST_EDITS as u32));
     let edits = value("LIST_EDIT_SIZE").zip(value("LIST_MOST_EDITS")).map_or(0, |(size, most)| size * most);
     same(value("LIST_HEADER_SIZE").map(|header| header + edits), Some(EditList::MOST_BYTES as u32));
