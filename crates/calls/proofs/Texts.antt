@@ -1,6 +1,5 @@
 -- What specs/Exports.antt states of the packed table's text in a caller's hands, proved. Assumes nothing.
-use mathlib.Core.Path.{_≡_, refl, sym, ap, subst, _∙_}
-use mathlib.Core.Bool.{true, false}
+use mathlib.Core.Path.{_≡_, refl, ap, subst, _∙_}
 use mathlib.Core.List.{List, [], _∷_, _++_}
 use mathlib.Core.Option.{some}
 use Prim.Native.Nat.{ℕ, _≤_, _<_}
@@ -19,7 +18,7 @@ use Rattle.model.specs.PackedText.{packedTable, packedText}
 use Rattle.model.specs.Calls.{step, textWritten}
 use Rattle.model.specs.Numbers.{answerOf, refusalAnswer}
 use Rattle.model.specs.Fine.{Fine}
-use Rattle.model.specs.Reached.{Reached, leaves}
+use Rattle.model.specs.Reached.{leaves}
 use Rattle.model.proofs.Kept.{kept}
 use Rattle.model.proofs.Texts.{same-table}
 use Rattle.region.specs.Region.{image, decode}

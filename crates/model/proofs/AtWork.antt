@@ -4,5 +4,6 @@ pub mod Demand3
 pub mod Marked
 pub mod Open
 pub mod Nested
+pub mod Text
 pub mod Where
 pub mod Worked

@@ -1,12 +1,12 @@
 -- Digits: what was written is read, and what was read is written; and so of a ref line without its line feed. Assumes nothing.
 use mathlib.Core.Path.{_≡_, refl, sym, ap, ap₂, subst, _∙_}
-use mathlib.Core.Bool.{Bool, true, false, _&&_, _||_, cond, false≢true}
+use mathlib.Core.Bool.{Bool, true, false, cond, false≢true}
 use mathlib.Core.List.{List, [], _∷_, _++_, append-assoc}
 use mathlib.Core.Option.{some}
 use Prim.Native.Nat.{ℕ, zero, suc, _+_, _-_, _*_, _/_, _%_, _^_, _≤_, _<_}
 use native.Mathlib.Nat.{pow-suc, pow-zero, div-lt-iff-lt-mul, mod-lt, mul-assoc, add-zero, add-suc, suc-add}
 use native.Mathlib.Omega.{arith}
-use lib.ListN.{length, getD, take, drop, length-drop, length-append, List·getD-eq-default}
+use lib.ListN.{length, getD, take, drop, length-drop, List·getD-eq-default}
 use lib.Seq.{length-take-le, split-at, take-at, getD-at, drop-append-add, take-add}
 use lib.Arith.{digits-div, digits-mod}
 use lib.Dec.{eqb, ltb, leb, lit<}

@@ -1,9 +1,9 @@
 -- Reading a text keeps the rules, and what holds of every reached store; writing one changes nothing. Assumes nothing.
-use mathlib.Core.Path.{_≡_, refl, sym, ap, subst, _∙_}
-use mathlib.Core.Bool.{Bool, true, false, _&&_}
+use mathlib.Core.Path.{_≡_, refl, ap, subst, _∙_}
+use mathlib.Core.Bool.{Bool, true, false}
 use mathlib.Core.List.{List, [], _∷_, _++_, map}
 use mathlib.Core.Option.{Option, none, some}
-use Prim.Native.Nat.{ℕ, _+_, _≤_, _<_}
+use Prim.Native.Nat.{ℕ, _+_, _<_}
 use native.Mathlib.Omega.{arith}
 use lib.ListN.{length, getD, length-append, length-map}
 use lib.Seq.{getD-append-seam}
@@ -13,18 +13,16 @@ use Rattle.model.specs.declared.Packed.the-variants as packed
 use Rattle.model.specs.declared.Lock.the-variants.{Ours}
 use Rattle.model.specs.Names.{pieces}
 use Rattle.model.specs.Store.{Store, Entry, noEntry, count, entryAt, isPrepared, isLock, putPacked, withEntries}
-use Rattle.model.specs.Outcome.Outcome.{refuse, pass}
-use Rattle.model.specs.Fine.{Fine, fineEntry}
+use Rattle.model.specs.Outcome.Outcome.{pass}
 use Rattle.model.specs.Reply.Call.{addName, loadPacked, writePacked, readPacked}
-use Rattle.model.specs.Reply.Reply.{done}
-use Rattle.model.specs.Reply.Given.{nothing, number}
+use Rattle.model.specs.Reply.Given.{nothing}
 use Rattle.model.specs.Load.{numberFrom, newEntry, nameAdded, packedLoaded}
 use Rattle.model.specs.PackedText.{Ref, packedText, lineFeed, readText, unpacked, packedAs, refLoadedAs, refLoaded, loaded, judged}
 use Rattle.model.specs.Calls.{textWritten, textRead, step}
 use Rattle.model.specs.Reached.{leaves}
 use Rattle.model.proofs.Binds.{not-prepared, pass-is, refuse-pass, pass-then}
 use Rattle.model.proofs.Base.{mapped-at, Base, base, base-changed, entry-packed, idle-fine, idle-free}
-use Rattle.model.proofs.Beneath.{Alone, alone-is, alone-moved}
+use Rattle.model.proofs.Beneath.{alone-is, alone-moved}
 use Rattle.model.proofs.KeptSimple.{Rule, passed, tested, addName-kept, loadPacked-kept}
 use Rattle.model.proofs.TextLines.{Loadable, Chain, read-chain}
 use Rattle.model.proofs.TextTable.{Found, number-found, put-is}

@@ -1,9 +1,9 @@
 -- The table of a store that obeys the rules, loaded into that store again, leaves it as it is; and what loading leaves alone of any store.
 -- Assumes nothing.
 use mathlib.Core.Path.{_≡_, refl, sym, ap, subst, _∙_}
-use mathlib.Core.Bool.{Bool, true, false, _&&_, not, cond, true≢false}
+use mathlib.Core.Bool.{Bool, true, false, cond, true≢false}
 use mathlib.Core.List.{List, [], _∷_, map}
-use mathlib.Core.Option.{Option, none, some}
+use mathlib.Core.Option.{none, some}
 use mathlib.Core.Logic.{_⊎_}
 use mathlib.Core.Logic._⊎_.{inl, inr}
 use Prim.Native.Nat.{ℕ, zero, suc, _+_, _≤_, _<_}
@@ -16,10 +16,9 @@ use Rattle.model.specs.declared.Packed.{Packed}
 use Rattle.model.specs.declared.Packed.the-variants as packed
 use Rattle.model.specs.Names.{sameBytes, before, packable}
 use Rattle.model.specs.Store.{Store, Entry, noEntry, count, entryAt, isId, putPacked, withEntries}
-use Rattle.model.specs.Outcome.{Outcome}
-use Rattle.model.specs.Outcome.Outcome.{refuse, pass}
+use Rattle.model.specs.Outcome.Outcome.{pass}
 use Rattle.model.specs.Fine.{Fine, entryTests, finePacked, fineEntry}
-use Rattle.model.specs.Load.{numberFrom, newEntry}
+use Rattle.model.specs.Load.{numberFrom}
 use Rattle.model.specs.PackedText.{Ref, insert, withPacked, sorted, packedTable, unpacked, refLoadedAs, refLoaded, loaded}
 use Rattle.model.specs.Texts.{Aside}
 use Rattle.model.proofs.Binds.{pass-is, pass-then}

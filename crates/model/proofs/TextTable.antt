@@ -1,22 +1,19 @@
 -- The sorted table: it rises, and refs that rise, loaded into a store without packed values, are its table. Assumes nothing.
 use mathlib.Core.Path.{_≡_, refl, sym, ap, subst, _∙_}
-use mathlib.Core.Bool.{Bool, true, false, _&&_, not, cond, true≢false, false≢true}
+use mathlib.Core.Bool.{Bool, true, false, cond, true≢false}
 use mathlib.Core.List.{List, [], _∷_, _++_, map, append-assoc, append-nil}
 use mathlib.Core.Option.{Option, none, some}
-use Prim.Native.Nat.{ℕ, zero, suc, _+_, _≤_, _<_}
+use Prim.Native.Nat.{ℕ, suc, _+_, _<_}
 use native.Mathlib.Omega.{arith}
 use lib.ListN.{length, getD}
-use lib.Dec.{eqb, leb}
-use borrow.Author.Tests.{not-true}
-use Rattle.word.proofs.Tests.{sameList-true, sameList-false}
+use lib.Dec.{leb}
+use Rattle.word.proofs.Tests.{sameList-true}
 use Rattle.target.specs.declared.ObjectNumber.{ObjectNumber}
 use Rattle.model.specs.declared.Packed.{Packed}
 use Rattle.model.specs.declared.Packed.the-variants as packed
-use Rattle.model.specs.declared.Refusal.the-variants.{NamesFull}
 use Rattle.model.specs.Names.{sameBytes, before}
-use Rattle.model.specs.Store.{Store, Entry, noEntry, count, entryAt, putPacked, changeAt, withEntries}
-use Rattle.model.specs.Outcome.{Outcome}
-use Rattle.model.specs.Outcome.Outcome.{refuse, pass}
+use Rattle.model.specs.Store.{Store, Entry, noEntry, count, putPacked, changeAt, withEntries}
+use Rattle.model.specs.Outcome.Outcome.{pass}
 use Rattle.model.specs.Load.{numberFrom, newEntry}
 use Rattle.model.specs.PackedText.{Ref, insert, withPacked, sorted, packedTable, unpacked, packedAs, refLoadedAs, refLoaded, loaded}
 use Rattle.model.proofs.Binds.{pass-is, refuse-pass, none-some, some-is, pass-then}

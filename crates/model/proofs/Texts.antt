@@ -1,9 +1,8 @@
 -- What specs/Texts.antt states, proved. Assumes nothing.
-use mathlib.Core.Path.{_≡_, refl, sym, ap, subst, _∙_}
-use mathlib.Core.Bool.{Bool, true, false, _&&_}
+use mathlib.Core.Path.{_≡_, refl, sym, ap, _∙_}
+use mathlib.Core.Bool.{Bool, true, false}
 use mathlib.Core.List.{List, [], _∷_, _++_}
-use mathlib.Core.Option.{none}
-use Prim.Native.Nat.{ℕ, _+_, _*_, _≤_, _<_}
+use Prim.Native.Nat.{ℕ, _+_, _*_, _≤_}
 use native.Mathlib.Omega.{arith}
 use lib.ListN.{length, length-append}
 use Rattle.word.proofs.Tests.{true-both}
@@ -12,20 +11,19 @@ use Rattle.model.specs.Names.{before, pieces}
 use Rattle.model.specs.Store.{Store, Entry, count, isPrepared}
 use Rattle.model.specs.Outcome.{Outcome}
 use Rattle.model.specs.Outcome.Outcome.{refuse, pass}
-use Rattle.model.specs.Reply.{Given, Reply, idle, _>>=_, _>>_}
+use Rattle.model.specs.Reply.{Given}
 use Rattle.model.specs.Reply.Call.{readPacked}
 use Rattle.model.specs.Reply.Reply.{done, refused}
 use Rattle.model.specs.Reply.Given.{number}
-use Rattle.model.specs.PackedText.{Ref, refLine, sorted, packedTable, packedText, lineFeed, End, Reading, readText, unpacked, loaded, judged}
+use Rattle.model.specs.PackedText.{Ref, refLine, sorted, packedTable, packedText, lineFeed, End, Reading, readText, unpacked, loaded}
 use Rattle.model.specs.PackedText.End.{whole, faulty}
 use Rattle.model.specs.Calls.{textRead, step}
-use Rattle.model.specs.Reached.{Reached}
 use Rattle.model.specs.Texts.{rises, Rises, lengths, TextLength, Widest, WrittenRead, SameTable, SameStore, SameText, LeftAlone}
 use Rattle.model.proofs.Kept.{reached-sound}
 use Rattle.model.proofs.Places.{Each}
 use Rattle.model.proofs.NameBytes.{is-named}
 use Rattle.model.proofs.Digits.{length-digits}
-use Rattle.model.proofs.TextLines.{Loadable, Chain, read-chain, written-read, read-written, joined, pieces-joined}
+use Rattle.model.proofs.TextLines.{Loadable, Chain, read-chain, written-read, read-written, pieces-joined}
 use Rattle.model.proofs.TextTable.{Rising, loaded-table}
 use Rattle.model.proofs.TextStore.{table-loads, table-rises, table-chain, length-packed, loaded-same, aside-then, loaded-aside, unpacked-aside}
 

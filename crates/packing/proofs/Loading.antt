@@ -1,6 +1,6 @@
 -- The lines of a text one by one: turns and ends of the two loops over them, and what each line leaves. Assumes nothing.
 use mathlib.Core.Path.{_≡_, refl, sym, ap, ap₂, subst, _∙_}
-use mathlib.Core.Bool.{Bool, true, false, _&&_, cond}
+use mathlib.Core.Bool.{Bool, true, false, _&&_}
 use mathlib.Core.List.{List, [], _∷_, _++_}
 use mathlib.Core.Option.{Option, none, some}
 use Prim.Native.Nat.{ℕ, zero, suc, _+_, _-_, _^_, _≤_, _<_}
@@ -8,24 +8,20 @@ use native.Mathlib.Omega.{arith}
 use lib.ListN.{length, getD, take, drop, length-append}
 use lib.Dec.{ltb, leb}
 use borrow.Author.Tests.{le-leb, lt-leb, leb-false, ltb-true}
-use Rattle.word.specs.Codec.{isSome}
-use Rattle.word.specs.Tests.{every}
 use Rattle.word.proofs.Tests.{both-true, every-at}
 use Rattle.target.specs.declared.NameNumber.{NameNumber}
 use Rattle.target.specs.declared.OptionName.{OptionName}
 use Rattle.target.specs.declared.OptionName.the-variants.{NoName, Name}
 use Rattle.model.specs.declared.Packed.the-variants as packed
-use Rattle.model.specs.declared.Refusal.the-variants.{NamesFull}
 use Rattle.model.specs.Basic.{all}
 use Rattle.model.specs.Names.{pieces, isName, packable}
 use Rattle.model.specs.Store.{Store, Entry, count, isId, putPacked, changeEntry, withEntries}
-use Rattle.model.specs.Outcome.{Outcome}
-use Rattle.model.specs.Outcome.Outcome.{refuse, pass}
+use Rattle.model.specs.Outcome.Outcome.{pass}
 use Rattle.model.specs.Load.{numberFrom, newEntry}
-use Rattle.model.specs.PackedText.{Ref, refIn, packedAs, refLoadedAs, refLoaded, loaded}
+use Rattle.model.specs.PackedText.{Ref, refIn, refLoadedAs, refLoaded, loaded}
 use Rattle.model.proofs.Binds.{none-some, some-is, refuse-pass, pass-then}
 use Rattle.model.proofs.NameBytes.{is-named}
-use Rattle.model.proofs.Digits.{ref-reaches, ref-name, ref-small}
+use Rattle.model.proofs.Digits.{ref-reaches}
 use Rattle.model.proofs.TextTable.{Found, number-found}
 use Rattle.names.specs.Parts.{upTo}
 use Rattle.names.proofs.Bytes.{to-end}
@@ -38,7 +34,7 @@ use Rattle.texts.proofs.Walking.{one-piece}
 use Rattle.slots.specs.Values.{FitsPacked}
 use Rattle.region.specs.Region.{view, Laid, Became}
 use Rattle.steps.specs.Steps.{foundOption}
-use Rattle.packing.specs.Load.{heldWith, fits, entered, numberAs, Numbers, Numbered, canLoad, afterRef, afterLine, LineLoads, LineLoaded, afterRefs, LinesLoad, LinesLoaded}
+use Rattle.packing.specs.Load.{heldWith, fits, entered, numberAs, Numbers, Numbered, canLoad, afterLine, LineLoads, LineLoaded, afterRefs, LinesLoad, LinesLoaded}
 use Rattle.packing.proofs.Room.{after-ref}
 
 -- ---- the next line, where so many are left

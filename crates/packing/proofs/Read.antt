@@ -9,12 +9,11 @@ use Rattle.model.specs.declared.Refusal.{Refusal}
 use Rattle.model.specs.declared.Refusal.the-variants.{NamesFull, BadLoad, MalformedLine, WrongState}
 use Rattle.model.specs.Names.{pieces}
 use Rattle.model.specs.Store.{Store, count, isPrepared}
-use Rattle.model.specs.Outcome.{Outcome}
 use Rattle.model.specs.Outcome.Outcome.{refuse, pass}
 use Rattle.model.specs.Reply.Call.{readPacked}
 use Rattle.model.specs.Reply.Reply.{done, refused}
 use Rattle.model.specs.Reply.Given.{number}
-use Rattle.model.specs.PackedText.{Ref, lineFeed, End, Reading, readText, unpacked, loaded}
+use Rattle.model.specs.PackedText.{Ref, lineFeed, Reading, readText, unpacked, loaded}
 use Rattle.model.specs.PackedText.End.{whole, faulty}
 use Rattle.model.specs.Calls.{textRead, step}
 use Rattle.model.specs.Numbers.{answer, refusalAnswer}

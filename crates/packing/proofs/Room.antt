@@ -15,14 +15,13 @@ use Rattle.model.specs.declared.Refusal.the-variants.{NamesFull}
 use Rattle.model.specs.Basic.{all}
 use Rattle.model.specs.Names.{sameBytes, before}
 use Rattle.model.specs.Store.{Store, Entry, count, putPacked, withEntries}
-use Rattle.model.specs.Outcome.{Outcome}
 use Rattle.model.specs.Outcome.Outcome.{refuse, pass}
 use Rattle.model.specs.Load.{numberFrom, newEntry}
 use Rattle.model.specs.PackedText.{Ref, unpacked, packedAs, refLoadedAs, refLoaded, loaded}
 use Rattle.model.proofs.Binds.{pass-is, refuse-pass, pass-then}
 use Rattle.model.proofs.Places.{Each, each-weaken}
 use Rattle.model.proofs.ByteOrder.{before-itself, before-trans}
-use Rattle.model.proofs.TextLines.{Loadable, Chain}
+use Rattle.model.proofs.TextLines.{Chain}
 use Rattle.model.proofs.TextTable.{putRef, put-is}
 use Rattle.packing.specs.Load.{heldWith, fits, entered, numberAs, canLoad, afterRef, afterRefs}
 

@@ -13,7 +13,7 @@ use Rattle.model.specs.Reply.{Reply}
 use Rattle.model.specs.Reply.Call.{writePacked}
 use Rattle.model.specs.Reply.Reply.{done, refused}
 use Rattle.model.specs.Reply.Given.{written}
-use Rattle.model.specs.PackedText.{Ref, refLine, sorted, packedTable, packedText}
+use Rattle.model.specs.PackedText.{refLine, packedTable, packedText}
 use Rattle.model.specs.Texts.{lengths}
 use Rattle.model.specs.Numbers.{answer, answerOf, refusalAnswer}
 use Rattle.model.proofs.Texts.{text-length}

@@ -12,7 +12,6 @@ use Rattle.target.specs.declared.NameNumber.{NameNumber}
 use Rattle.model.specs.Basic.{all}
 use Rattle.model.specs.Names.{isName, packable}
 use Rattle.model.specs.Store.{Store, Entry, count, isId, withEntries}
-use Rattle.model.specs.Outcome.{Outcome}
 use Rattle.model.specs.Outcome.Outcome.{pass}
 use Rattle.model.specs.Load.{numberFrom, newEntry}
 use Rattle.model.specs.PackedText.{Ref, packedAs, loaded}

@@ -1,17 +1,16 @@
 -- What a line says: each way out of the functions that look at one. Assumes nothing.
-use mathlib.Core.Path.{_≡_, refl, sym, ap, subst, _∙_}
-use mathlib.Core.Bool.{Bool, true, false, _&&_, _||_, not, and-false}
-use mathlib.Core.List.{List, [], _∷_}
-use mathlib.Core.Option.{Option, none, some}
-use Prim.Native.Nat.{ℕ, _+_, _-_, _^_, _≤_, _<_}
+use mathlib.Core.Path.{_≡_, sym, ap, _∙_}
+use mathlib.Core.Bool.{Bool, true, false, _&&_, not, and-false}
+use mathlib.Core.List.{List}
+use mathlib.Core.Option.{none, some}
+use Prim.Native.Nat.{ℕ, _-_, _^_, _≤_, _<_}
 use native.Mathlib.Omega.{arith}
 use lib.ListN.{length, getD, take, drop, length-take, List·getD-eq-default}
 use lib.Seq.{take-add, length-take-le}
-use lib.Dec.{eqb, ltb}
-use borrow.Author.Tests.{eq-eqb, ne-eqb, lt-ltb, le-ltb, not-true, not-false}
+use borrow.Author.Tests.{eq-eqb, ne-eqb, lt-ltb, not-true, not-false}
 use Rattle.word.proofs.Tests.{every-false}
 use Rattle.model.specs.Basic.{all}
-use Rattle.model.specs.Names.{begins, before, isName, isChar, under, packable}
+use Rattle.model.specs.Names.{before, isName, isChar, under, packable}
 use Rattle.model.specs.Store.{isId}
 use Rattle.model.specs.PackedText.{Ref, isDigit, digitsFrom, refTests, refIn, isPeeled, refSaid, lineSaid}
 use Rattle.model.proofs.Digits.{all-last, ref-reaches, ref-small}
@@ -20,7 +19,7 @@ use Rattle.texts.specs.declared.OptionNumber.{OptionNumber}
 use Rattle.texts.specs.declared.OptionNumber.the-variants.{NoNumber, Number}
 use Rattle.texts.specs.declared.Said.{Said}
 use Rattle.texts.specs.declared.Said.the-variants as said
-use Rattle.texts.specs.Lines.{Digits, refBy, saidBy, SaysRef, SaysLine}
+use Rattle.texts.specs.Lines.{Digits, refBy, SaysRef, SaysLine}
 
 -- ---- a ref line
 

@@ -1,6 +1,6 @@
 // A text from its first line to its end, or to its first line at fault.
 ghost use mathlib.Core.Path.{_≡_};
-ghost use Prim.Native.Nat.{_+_, _≤_};
+ghost use Prim.Native.Nat.{_+_};
 ghost use Rattle.texts.specs.Walk.{unendedAs, pastAs, Roomy, At, Goes, Checks};
 use crate::RefLine;
 use crate::Said;
