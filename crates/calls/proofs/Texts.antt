@@ -1,5 +1,5 @@
 -- What specs/Exports.antt states of the packed table's text in a caller's hands, proved. Assumes nothing.
-use mathlib.Core.Path.{_≡_, refl, ap, subst, _∙_}
+use mathlib.Core.Path.{_≡_, refl, sym, ap, subst, _∙_}
 use mathlib.Core.List.{List, [], _∷_, _++_}
 use mathlib.Core.Option.{some}
 use Prim.Native.Nat.{ℕ, _≤_, _<_}
@@ -10,22 +10,22 @@ use borrow.Author.Tests.{eq-eqb, lt-ltb, le-ltb}
 use Rattle.model.specs.declared.Refusal.the-variants.{TextTooLong}
 use Rattle.model.specs.Store.{Store}
 use Rattle.model.specs.Commit.Stop.{noCommitter, usedUp}
-use Rattle.model.specs.Reply.{Reply, Given}
+use Rattle.model.specs.Reply.{Call, Reply, Given}
 use Rattle.model.specs.Reply.Call.{writePacked, readPacked}
 use Rattle.model.specs.Reply.Reply.{done, stopped, refused}
-use Rattle.model.specs.Reply.Given.{written}
+use Rattle.model.specs.Reply.Given.{number, written}
 use Rattle.model.specs.PackedText.{packedTable, packedText}
 use Rattle.model.specs.Calls.{step, textWritten}
 use Rattle.model.specs.Numbers.{answerOf, refusalAnswer}
 use Rattle.model.specs.Fine.{Fine}
-use Rattle.model.specs.Reached.{leaves}
+use Rattle.model.specs.Reached.{Reached, leaves}
 use Rattle.model.proofs.Kept.{kept}
-use Rattle.model.proofs.Texts.{same-table}
+use Rattle.model.proofs.Texts.{same-table, same-store, same-text}
 use Rattle.region.specs.Region.{image, decode}
 use Rattle.region.proofs.Decode.{decoded, decode-image}
 use Rattle.calls.specs.Call.{Out, outOf, call, beside, bufferAfter, replyToWriting, writeCall, Did}
-use Rattle.calls.specs.Exports.{WritesText, ReadsText}
-use Rattle.calls.proofs.Exports.{refusal-number, replies-to, second, does-step, step-image}
+use Rattle.calls.specs.Exports.{WritesText, ReadsText, WrittenThenRead, ReadThenWritten}
+use Rattle.calls.proofs.Exports.{refusal-number, only, replies-to, second, does-step, step-image, got-reached}
 
 -- ---- writing
 
@@ -76,12 +76,51 @@ done-code (stopped noCommitter s made) r e = absurd (omega arith)
 done-code (stopped usedUp s made) r e = absurd (omega arith)
 done-code (refused x) r e = absurd (refusal-number x e)
 
-pub reads-text : ReadsText
-reads-text r a s a′ r′ t e h l d =
-    let c = readPacked (packedText t) in
+-- what a call that returns 0 did, and the store in the region that it leaves
+pub record Does (c : Call) (s : Store) (r′ : List ℕ) : Type 0 where
+  pub store : Store
+  pub given : Given
+  pub steps : step c s ≡ done store given
+  pub holds : decode r′ ≡ some store
+
+does : (c : Call) (r a : List ℕ) (s : Store) (a′ r′ : List ℕ) → decode r ≡ some s → length a ≡ 128 → Did (call c r a) 0 a′ (r′ ∷ [])
+    → Does c s r′
+does c r a s a′ r′ e l d =
     let o : call c r a ≡ outOf (step c s) r = does-step c r a s e l in
     let x = done-code (step c s) r (d .code ∙ ap (λ (o : Out). o .code) o) in
     let i : r′ ≡ image (leaves (step c s) s) = step-image c r r′ s e (d .lent ∙ ap (λ (o : Out). o .lent) o) in
     let f : Fine (leaves (step c s) s) = kept s (decoded r s e .0) c in
     let u : leaves (step c s) s ≡ x .0 = ap (λ (reply : Reply). leaves reply s) (x .1 .1) in
-    (leaves (step c s) s, ap decode i ∙ decode-image (leaves (step c s) s) f, ap packedTable u ∙ same-table t h s (x .0) (x .1 .0) (x .1 .1))
+    record {
+      store = x .0;
+      given = x .1 .0;
+      steps = x .1 .1;
+      holds = ap decode i ∙ decode-image (leaves (step c s) s) f ∙ ap some u;
+    }
+
+pub reads-text : ReadsText
+reads-text r a s a′ r′ t e h l d =
+    let x = does (readPacked (packedText t)) r a s a′ r′ e l d in
+    (x .store, x .holds, same-table t h s (x .store) (x .given) (x .steps))
+
+-- ---- there and back
+
+one-store : (s t : Store) → some s ≡ some t → s ≡ t
+one-store s t e = cc
+
+pub written-then-read : WrittenThenRead
+unfolding outOf answerOf
+written-then-read r a s n a′ r′ g e p l d =
+    let x = got-reached r g in
+    let h : Reached s = subst Reached (one-store (x .0) s (sym (x .1) ∙ e)) (x .2) in
+    let q : step (readPacked (packedText s)) s ≡ done s (number (length (packedTable s))) = same-store s h p in
+    let o : call (readPacked (packedText s)) r a ≡ outOf (done s (number (length (packedTable s)))) r =
+    does-step (readPacked (packedText s)) r a s e l ∙ ap (λ (reply : Reply). outOf reply r) q in
+    (d .code ∙ ap (λ (o : Out). o .code) o, only r′ (image s) (d .lent ∙ ap (λ (o : Out). o .lent) o) ∙ decoded r s e .1)
+
+pub read-then-written : ReadThenWritten
+read-then-written t r a s a₁ r₁ b₁ n a₂ r₂ b₂ p e l d fit w =
+    let x = does (readPacked t) r a s a₁ r₁ e l d in
+    let q : packedText (x .store) ≡ t = same-text t p s (x .store) (x .given) (x .steps) in
+    let y = fits r₁ b₁ a (x .store) n a₂ r₂ b₂ (x .holds) l w (subst (λ (z : List ℕ). length z ≤ length b₁) (sym q) fit) in
+    (y .0, subst (λ (z : List ℕ). take (length z) b₂ ≡ z) q (y .1))

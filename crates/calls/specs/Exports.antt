@@ -1,14 +1,16 @@
 -- What is proved of every call that keeps the contract `Did (call c r a)`, whatever the call, of start with a settings record, of closing a
 -- receiver and of writing the packed table's text. Every exported call on a region has one of the four. The proofs stand in proofs/Exports.antt.
 use mathlib.Core.Path.{_≡_}
+use mathlib.Core.Bool.{true, false}
 use mathlib.Core.List.{List, [], _∷_}
 use mathlib.Core.Option.{some}
 use Prim.Native.Nat.{ℕ, _≤_, _<_}
 use lib.ListN.{length, take, drop}
-use Rattle.model.specs.Store.{Store}
+use Rattle.model.specs.Store.{Store, isPrepared}
 use Rattle.model.specs.Reply.{Call, Reply}
 use Rattle.model.specs.Reply.Call.{start, placeLock, liftLock, readPacked}
 use Rattle.model.specs.PackedText.{packedTable, packedText}
+use Rattle.model.specs.Texts.{plain}
 use Rattle.model.specs.Reached.{Reached}
 use Rattle.model.specs.Locks.{placing, lifting, didBefore}
 use Rattle.region.specs.Region.{decode}
@@ -112,6 +114,29 @@ ReadsText =
     → length a ≡ 128
     → Did (call (readPacked (packedText t)) r a) 0 a′ (r′ ∷ [])
     → (u : Store) × (decode r′ ≡ some u) × (packedTable u ≡ packedTable t)
+
+-- a backup and its return: read into the region that says it, with nothing prepared, the text is taken and no byte changes
+abbrev pub WrittenThenRead : Type 0
+WrittenThenRead =
+    (r a : List ℕ) (s : Store) (n : ℕ) (a′ r′ : List ℕ)
+    → Got r
+    → decode r ≡ some s
+    → isPrepared (s .prepared) ≡ false
+    → length a ≡ 128
+    → Did (call (readPacked (packedText s)) r a) n a′ (r′ ∷ [])
+    → (n ≡ 0) × (r′ ≡ r)
+
+-- a text that a region took stands in the buffer when that region is written, if it has no comments and no `^` lines
+abbrev pub ReadThenWritten : Type 0
+ReadThenWritten =
+    (t r a : List ℕ) (s : Store) (a₁ r₁ b₁ : List ℕ) (n : ℕ) (a₂ r₂ b₂ : List ℕ)
+    → plain t ≡ true
+    → decode r ≡ some s
+    → length a ≡ 128
+    → Did (call (readPacked t) r a) 0 a₁ (r₁ ∷ [])
+    → length t ≤ length b₁
+    → Did (writeCall r₁ b₁ a) n a₂ (r₂ ∷ b₂ ∷ [])
+    → (n ≡ 0) × (take (length t) b₂ ≡ t)
 
 -- ---- 2026-05: a caller gets of the two lock calls what the four gave, the number, the record and every byte of the region
 
