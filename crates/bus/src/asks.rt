@@ -3,9 +3,7 @@ use answers::Answer;
 use receiver::Receiver;
 
 fn tell(what: &[u8], number: u32, answer: &[u8; 128]) {
-    say::text(what);
-    say::number(b": ", number as u64);
-    say::number(b", ", word::get_at(answer, 0, Answer::WIDTH));
+    say::answer(what, number as u64, word::get_at(answer, 0, Answer::WIDTH));
 }
 
 // What its count says, whether it is good or not; and where all its bytes are 0, that it is fresh.

@@ -14,6 +14,13 @@ pub fn end() {
     text(b"\n");
 }
 
+// What a call answered: its number, and the first place of its record.
+pub fn answer(what: &[u8], n: u64, first: u64) {
+    text(what);
+    number(b": ", n);
+    number(b", ", first);
+}
+
 // ---- one text of several
 
 // Where the next bar stands, from a place on; past the end where there is none.
