@@ -88,6 +88,22 @@ mod entries {
             answer_len: usize,
         ) -> u32;
         pub fn dehlbazin_read_row(region: *const u8, len: usize, place: u64, answer: *mut u8, answer_len: usize) -> u32;
+        pub fn dehlbazin_write_packed(
+            region: *const u8,
+            len: usize,
+            buffer: *mut u8,
+            buffer_len: usize,
+            answer: *mut u8,
+            answer_len: usize,
+        ) -> u32;
+        pub fn dehlbazin_read_packed(
+            region: *mut u8,
+            len: usize,
+            text: *const u8,
+            text_len: usize,
+            answer: *mut u8,
+            answer_len: usize,
+        ) -> u32;
     }
 }
 
@@ -102,6 +118,18 @@ impl Reported {
     /// Whether it says the same as a reply of the other side, and all other places are 0.
     pub fn is(&self, reply: &Reply) -> bool {
         self.number == reply.number && self.places[..5] == reply.places && self.places[5..] == [0; 11]
+    }
+
+    /// Says in words that another number, or other places, must be answered.
+    pub fn must_be(&self, number: u32, places: &[u64]) -> Result<(), String> {
+        match self.is(&Reply::new(number, places)) {
+            true => Ok(()),
+            false => Err(format!("{} is answered, not {number} {places:?}", self.said())),
+        }
+    }
+
+    pub fn said(&self) -> String {
+        format!("{} {:?}", self.number, self.places)
     }
 }
 
@@ -195,6 +223,14 @@ pub fn read_line(region: &[u8], name: usize, place: usize) -> Reported {
 
 pub fn read_row(region: &[u8], place: usize) -> Reported {
     call!(region, as_ptr, dehlbazin_read_row, place as u64)
+}
+
+pub fn write_packed(region: &[u8], buffer: &mut [u8]) -> Reported {
+    call!(region, as_ptr, dehlbazin_write_packed, buffer.as_mut_ptr(), buffer.len())
+}
+
+pub fn read_packed(region: &mut [u8], text: &str) -> Reported {
+    call!(region, as_mut_ptr, dehlbazin_read_packed, text.as_ptr(), text.len())
 }
 
 /// Ends the prepared transaction as the case says.

@@ -2,7 +2,6 @@
 //! fragments. What is compared with it is prepare; and closing must answer what prepare answers, and leave the same region, so that it is
 //! compared with gix-ref as well.
 
-use crate::answer::Reply;
 use crate::archive::{self, Reported};
 use crate::case::Case;
 use crate::dice::Dice;
@@ -37,7 +36,7 @@ pub fn difference(case: &Case, before: &[u8], prepare: &Reported, after: &[u8]) 
     let mut region = before.to_vec();
     let text = match closed(&mut region, &fragments, case.mode) {
         Err(text) => text,
-        Ok(close) if close != *prepare => format!("closing answers {}, prepare {}", said(&close), said(prepare)),
+        Ok(close) if close != *prepare => format!("closing answers {}, prepare {}", close.said(), prepare.said()),
         Ok(_) if region != after => "closing leaves another region than prepare".to_owned(),
         Ok(_) => return None,
     };
@@ -63,28 +62,16 @@ fn cut(list: &[u8], mode: u8) -> Vec<&[u8]> {
 /// What closing answers, if the fragments are taken one by one, one too many is not, and the receiver is fresh afterwards.
 fn closed(region: &mut [u8], fragments: &[&[u8]], mode: u8) -> Result<Reported, String> {
     let mut receiver = [0xa5; SIZE];
-    expect(&archive::fresh_receiver(&mut receiver), 0, &[])?;
+    archive::fresh_receiver(&mut receiver).must_be(0, &[])?;
     let mut held = 0;
     for fragment in fragments {
         held += fragment.len();
-        expect(&archive::take_fragment(&mut receiver, fragment), 0, &[held as u64])?;
+        archive::take_fragment(&mut receiver, fragment).must_be(0, &[held as u64])?;
     }
-    expect(&archive::take_fragment(&mut receiver, &[0xa5; SIZE][..ROOM + 1 - held]), 26, &[])?;
+    archive::take_fragment(&mut receiver, &[0xa5; SIZE][..ROOM + 1 - held]).must_be(26, &[])?;
     let close = archive::close_receiver(region, &mut receiver, mode);
     match receiver == [0; SIZE] {
         true => Ok(close),
         false => Err(format!("closing answers {}, and the receiver is not fresh", close.number)),
     }
-}
-
-/// What a call on the receiver alone must answer.
-fn expect(found: &Reported, number: u32, places: &[u64]) -> Result<(), String> {
-    match found.is(&Reply::new(number, places)) {
-        true => Ok(()),
-        false => Err(format!("the receiver answers {}, not {number} {places:?}", said(found))),
-    }
-}
-
-fn said(reported: &Reported) -> String {
-    format!("{} {:?}", reported.number, reported.places)
 }

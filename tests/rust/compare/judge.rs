@@ -2,6 +2,7 @@
 
 use crate::answer::{Answer, Prepared, Reply, Row, NO_LAYOUT};
 use crate::archive::{self, Lockable};
+use crate::backups;
 use crate::case::{Case, End, State, Target};
 use crate::conflicts;
 use crate::differences::{self, Stage};
@@ -24,7 +25,7 @@ type Outcome = Result<(), (Stage, String)>;
 pub enum Care {
     /// Every stop too, where the Rust's side is its own list of writes.
     Stops,
-    /// Besides, the store is also made by calls, and everything is read by calls.
+    /// Besides, the store is also made by calls, everything is read by calls, and the packed table is written and read as text.
     Reads,
 }
 
@@ -129,6 +130,8 @@ fn compare(case: &Case, rust: &Answer, care: Care) -> Outcome {
     if care == Care::Reads {
         compare_rows(case, prepared, &prepared_region)?;
         compare_reads(case, prepared, &after)?;
+        as_text(Stage::Prepare, backups::while_prepared(case, &prepared_region))?;
+        as_text(Stage::End, backups::afterwards(case, prepared, &after))?;
     }
     Ok(())
 }
@@ -222,6 +225,10 @@ fn compare_reads(case: &Case, prepared: &Prepared, region: &[u8]) -> Outcome {
         same_reply(Stage::End, &Reply::new(22, &[]), archive::read_line(region, name, count))?;
     }
     Ok(())
+}
+
+fn as_text(stage: Stage, found: Result<(), String>) -> Outcome {
+    found.map_err(|text| (stage, format!("{stage:?}, the packed table as text: {text}")))
 }
 
 fn same_reply(stage: Stage, rust: &Reply, archive: archive::Reported) -> Outcome {

@@ -2,6 +2,7 @@
 
 mod answer;
 mod archive;
+mod backups;
 mod build;
 mod case;
 mod conflicts;

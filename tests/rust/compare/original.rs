@@ -73,12 +73,15 @@ fn answer_on_files(site: &Site, case: &Case, odd: Odd) -> Answer {
 }
 
 /// The files hold this state. They know no order between logs: sorted by name, which keeps the order within each, the lines
-/// must be the same.
+/// must be the same. The packed table's file has the very bytes that are compared as its text.
 fn assert_same(site: &Site, case: &Case, state: &State) {
     let (mut expected, mut found) = (state.clone(), site.read(&case.store));
     expected.lines.sort_by_key(|line| line.name);
     found.lines.sort_by_key(|line| line.name);
     assert_eq!(expected, found, "the writes that were counted are not what changed in {case:?}");
+    if let Some(file) = site.packed_file() {
+        assert_eq!(file, site::packed_text(&case.store, &state.packed), "the packed table's file of {case:?}");
+    }
 }
 
 /// Reads what was prepared, ends the transaction, and reads what is there then.

@@ -1,6 +1,7 @@
 //! The runs: which cases are tried, and how many.
 
 use crate::answer::Answer;
+use crate::backups;
 use crate::case::Case;
 use crate::crossed;
 use crate::dice::Dice;
@@ -47,6 +48,7 @@ fn some(site: &Site, stride: u64, count: u64, with_git: u64, seed: u64) -> bool 
     tallies.extend(git(site, with_git, seed));
     tallies.push(recorded(site));
     tallies.push(in_fragments());
+    tallies.push(as_texts());
     let passed: u64 = tallies.iter().map(Tally::passed).sum();
     let failed: u64 = tallies.iter().map(Tally::failed).sum();
     println!("{passed} passed, {failed} failed");
@@ -70,6 +72,14 @@ fn in_fragments() -> Tally {
     let (mut tally, [lists, fragments, empty]) = (Tally::default(), fragments::counts());
     println!("in fragments too: {lists} lists in {fragments} fragments, {empty} of which have no bytes");
     tally.check(lists > 0 && fragments > lists && empty > 0, "the lists were not cut, or nowhere twice");
+    tally
+}
+
+/// Of the cases that are read by calls the packed tables were written and read as text. Some had values, and some were brought back.
+fn as_texts() -> Tally {
+    let (mut tally, [written, read, changed]) = (Tally::default(), backups::counts());
+    println!("as text too: {written} tables with values written, {read} texts read, {changed} of which changed the table");
+    tally.check(written > 0 && read > 0 && changed > 0, "no table had values, or none was brought back");
     tally
 }
 

@@ -48,9 +48,8 @@ impl Site {
                 write(&dir.join("logs").join(name), &text)?;
             }
         }
-        let packed = packed_entries(store, &state.packed);
-        if !packed.is_empty() {
-            write(&self.packed_path(), &packed::text(&packed))?;
+        if state.packed.iter().any(Option::is_some) {
+            write(&self.packed_path(), &packed_text(store, &state.packed))?;
         }
         if state.packed_lock {
             write(&gix_lock::lock_path(&self.packed_path()), "")?;
@@ -67,6 +66,11 @@ impl Site {
 
     pub fn packed_path(&self) -> PathBuf {
         self.git_dir().join("packed-refs")
+    }
+
+    /// What is in the packed table's file, if it is there.
+    pub fn packed_file(&self) -> Option<String> {
+        fs::read_to_string(self.packed_path()).ok()
     }
 
     /// Which names are locked now, and whether the packed table is.
@@ -93,7 +97,7 @@ impl Site {
         let dir = self.git_dir();
         let mut state = State::empty(store.names.len());
         (state.locks, state.packed_lock) = self.locks(store);
-        let packed = fs::read_to_string(self.packed_path()).map_or_else(|_| BTreeMap::new(), |text| packed::parse(&text));
+        let packed = self.packed_file().map_or_else(BTreeMap::new, |text| packed::parse(&text));
         for (number, name) in store.names.iter().enumerate() {
             let loose = fs::read_to_string(dir.join(name)).ok();
             state.loose[number] = loose.map(|text| loose_from(store, &text));
@@ -175,9 +179,11 @@ fn loose_from(store: &Store, text: &str) -> Loose {
     }
 }
 
-fn packed_entries(store: &Store, packed: &[Option<u64>]) -> BTreeMap<String, ObjectId> {
-    let names = store.names.iter().zip(packed);
-    names.filter_map(|(name, packed)| Some((name.clone(), ObjectId::from_number((*packed)?)))).collect()
+/// The packed table's file: a header, and a line for each value.
+pub fn packed_text(store: &Store, packed: &[Option<u64>]) -> String {
+    let values = store.names.iter().zip(packed);
+    let entries = values.filter_map(|(name, packed)| Some((name.clone(), ObjectId::from_number((*packed)?))));
+    packed::text(&entries.collect::<BTreeMap<String, ObjectId>>())
 }
 
 /// The log of a name, if it has lines.

@@ -1,5 +1,5 @@
-//! Stands in for gix-hash: ids of 20 bytes. An object of the scope is a number of 64 bits; its id is the number's eight bytes,
-//! big-endian, padded with zeros.
+//! Stands in for gix-hash: ids of 20 bytes. An object of the scope is a number of 64 bits; its id is twelve zeros and the number's eight
+//! bytes, big-endian, as docs/PACKED-TEXT.md has it.
 
 use std::fmt;
 
@@ -36,14 +36,14 @@ impl ObjectId {
 
     pub fn from_number(number: u64) -> Self {
         let mut bytes = [0; 20];
-        bytes[..8].copy_from_slice(&number.to_be_bytes());
+        bytes[12..].copy_from_slice(&number.to_be_bytes());
         ObjectId(bytes)
     }
 
     pub fn number(&self) -> u64 {
-        let mut first = [0; 8];
-        first.copy_from_slice(&self.0[..8]);
-        u64::from_be_bytes(first)
+        let mut last = [0; 8];
+        last.copy_from_slice(&self.0[12..]);
+        u64::from_be_bytes(last)
     }
 
     /// Reads 40 hexadecimal digits.
