@@ -31,7 +31,8 @@ fn fill(region: &mut [u8]) {
     }
 }
 
-fn readings(region: &mut [u8]) {
+// One new name has room, and a second has none.
+fn room(region: &mut [u8]) {
     asks::read(
         b"two new names",
         region,
@@ -59,6 +60,6 @@ fn readings(region: &mut [u8]) {
 pub fn all(region: &mut [u8]) {
     asks::start(region);
     fill(region);
-    readings(region);
+    room(region);
     readings::written(region);
 }
