@@ -1,5 +1,6 @@
 -- What specs/Exports.antt states of the packed table's text in a caller's hands, proved. Assumes nothing.
 use mathlib.Core.Path.{_≡_, refl, sym, ap, subst, _∙_}
+use mathlib.Core.Bool.{false}
 use mathlib.Core.List.{List, [], _∷_, _++_}
 use mathlib.Core.Option.{some}
 use Prim.Native.Nat.{ℕ, _≤_, _<_}
@@ -8,7 +9,7 @@ use lib.ListN.{length, take, drop}
 use lib.Seq.{take-append-seam, drop-append-seam}
 use borrow.Author.Tests.{eq-eqb, lt-ltb, le-ltb}
 use Rattle.model.specs.declared.Refusal.the-variants.{TextTooLong}
-use Rattle.model.specs.Store.{Store}
+use Rattle.model.specs.Store.{Store, isPrepared}
 use Rattle.model.specs.Commit.Stop.{noCommitter, usedUp}
 use Rattle.model.specs.Reply.{Call, Reply, Given}
 use Rattle.model.specs.Reply.Call.{writePacked, readPacked}
@@ -19,13 +20,14 @@ use Rattle.model.specs.Calls.{step, textWritten}
 use Rattle.model.specs.Numbers.{answerOf, refusalAnswer}
 use Rattle.model.specs.Fine.{Fine}
 use Rattle.model.specs.Reached.{Reached, leaves}
+use Rattle.model.proofs.Binds.{some-is}
 use Rattle.model.proofs.Kept.{kept}
 use Rattle.model.proofs.Texts.{same-table, same-store, same-text}
 use Rattle.region.specs.Region.{image, decode}
 use Rattle.region.proofs.Decode.{decoded, decode-image}
 use Rattle.calls.specs.Call.{Out, outOf, call, beside, bufferAfter, replyToWriting, writeCall, Did}
-use Rattle.calls.specs.Exports.{WritesText, ReadsText, WrittenThenRead, ReadThenWritten}
-use Rattle.calls.proofs.Exports.{refusal-number, only, replies-to, second, does-step, step-image, got-reached}
+use Rattle.calls.specs.Exports.{Got, WritesText, ReadsText, WrittenThenRead, ReadThenWritten}
+use Rattle.calls.proofs.Exports.{refusal-number, only, replies-to, second, does-step, step-image, write-unchanged, got-reached}
 
 -- ---- writing
 
@@ -105,22 +107,29 @@ reads-text r a s a′ r′ t e h l d =
 
 -- ---- there and back
 
-one-store : (s t : Store) → some s ≡ some t → s ≡ t
-one-store s t e = cc
+-- the text of the store that is there is taken, and leaves the region
+taken : (r c : List ℕ) (s : Store) (m : ℕ) (c₁ r₂ : List ℕ) → Got r → decode r ≡ some s → isPrepared (s .prepared) ≡ false → length c ≡ 128
+    → Did (call (readPacked (packedText s)) r c) m c₁ (r₂ ∷ [])
+    → (m ≡ 0) × (r₂ ≡ r)
+unfolding outOf answerOf
+taken r c s m c₁ r₂ g e p l d =
+    let x = got-reached r g in
+    let h : Reached s = subst Reached (some-is (sym (x .1) ∙ e)) (x .2) in
+    let q : step (readPacked (packedText s)) s ≡ done s (number (length (packedTable s))) = same-store s h p in
+    let o : call (readPacked (packedText s)) r c ≡ outOf (done s (number (length (packedTable s)))) r =
+    does-step (readPacked (packedText s)) r c s e l ∙ ap (λ (reply : Reply). outOf reply r) q in
+    (d .code ∙ ap (λ (o : Out). o .code) o, only r₂ (image s) (d .lent ∙ ap (λ (o : Out). o .lent) o) ∙ decoded r s e .1)
 
 pub written-then-read : WrittenThenRead
-unfolding outOf answerOf
-written-then-read r a s n a′ r′ g e p l d =
-    let x = got-reached r g in
-    let h : Reached s = subst Reached (one-store (x .0) s (sym (x .1) ∙ e)) (x .2) in
-    let q : step (readPacked (packedText s)) s ≡ done s (number (length (packedTable s))) = same-store s h p in
-    let o : call (readPacked (packedText s)) r a ≡ outOf (done s (number (length (packedTable s)))) r =
-    does-step (readPacked (packedText s)) r a s e l ∙ ap (λ (reply : Reply). outOf reply r) q in
-    (d .code ∙ ap (λ (o : Out). o .code) o, only r′ (image s) (d .lent ∙ ap (λ (o : Out). o .lent) o) ∙ decoded r s e .1)
+written-then-read r b a c s n a₁ r₁ b₁ m c₁ r₂ g e p l k fit w d =
+    let t : take (length (packedText s)) b₁ ≡ packedText s = fits r b a s n a₁ r₁ b₁ e l w fit .1 in
+    let same : r₁ ≡ r = write-unchanged r b a n a₁ r₁ b₁ w .0 in
+    let text : Did (call (readPacked (packedText s)) r₁ c) m c₁ (r₂ ∷ []) = subst (λ (z : List ℕ). Did (call (readPacked z) r₁ c) m c₁ (r₂ ∷ [])) t d in
+    taken r c s m c₁ r₂ g e p k (subst (λ (z : List ℕ). Did (call (readPacked (packedText s)) z c) m c₁ (r₂ ∷ [])) same text)
 
 pub read-then-written : ReadThenWritten
-read-then-written t r a s a₁ r₁ b₁ n a₂ r₂ b₂ p e l d fit w =
+read-then-written t r b a c s a₁ r₁ n c₁ r₂ b₁ p e l k d fit w =
     let x = does (readPacked t) r a s a₁ r₁ e l d in
     let q : packedText (x .store) ≡ t = same-text t p s (x .store) (x .given) (x .steps) in
-    let y = fits r₁ b₁ a (x .store) n a₂ r₂ b₂ (x .holds) l w (subst (λ (z : List ℕ). length z ≤ length b₁) (sym q) fit) in
-    (y .0, subst (λ (z : List ℕ). take (length z) b₂ ≡ z) q (y .1))
+    let y = fits r₁ b c (x .store) n c₁ r₂ b₁ (x .holds) k w (subst (λ (z : List ℕ). length z ≤ length b) (sym q) fit) in
+    (y .0, subst (λ (z : List ℕ). take (length z) b₁ ≡ z) q (y .1))

@@ -1,5 +1,6 @@
 -- What is proved of every call that keeps the contract `Did (call c r a)`, whatever the call, of start with a settings record, of closing a
--- receiver and of writing the packed table's text. Every exported call on a region has one of the four. The proofs stand in proofs/Exports.antt.
+-- receiver and of writing the packed table's text. Every exported call on a region has one of the four. The proofs stand in proofs/Exports.antt,
+-- those of texts in proofs/Texts.antt.
 use mathlib.Core.Path.{_≡_}
 use mathlib.Core.Bool.{true, false}
 use mathlib.Core.List.{List, [], _∷_}
@@ -115,28 +116,32 @@ ReadsText =
     → Did (call (readPacked (packedText t)) r a) 0 a′ (r′ ∷ [])
     → (u : Store) × (decode r′ ≡ some u) × (packedTable u ≡ packedTable t)
 
--- a backup and its return: read into the region that says it, with nothing prepared, the text is taken and no byte changes
+-- a backup and its return: what was written into a buffer, read into its region again with nothing prepared, is taken, and no byte changes
 abbrev pub WrittenThenRead : Type 0
 WrittenThenRead =
-    (r a : List ℕ) (s : Store) (n : ℕ) (a′ r′ : List ℕ)
+    (r b a c : List ℕ) (s : Store) (n : ℕ) (a₁ r₁ b₁ : List ℕ) (m : ℕ) (c₁ r₂ : List ℕ)
     → Got r
     → decode r ≡ some s
     → isPrepared (s .prepared) ≡ false
     → length a ≡ 128
-    → Did (call (readPacked (packedText s)) r a) n a′ (r′ ∷ [])
-    → (n ≡ 0) × (r′ ≡ r)
+    → length c ≡ 128
+    → length (packedText s) ≤ length b
+    → Did (writeCall r b a) n a₁ (r₁ ∷ b₁ ∷ [])
+    → Did (call (readPacked (take (length (packedText s)) b₁)) r₁ c) m c₁ (r₂ ∷ [])
+    → (m ≡ 0) × (r₂ ≡ r)
 
 -- a text that a region took stands in the buffer when that region is written, if it has no comments and no `^` lines
 abbrev pub ReadThenWritten : Type 0
 ReadThenWritten =
-    (t r a : List ℕ) (s : Store) (a₁ r₁ b₁ : List ℕ) (n : ℕ) (a₂ r₂ b₂ : List ℕ)
+    (t r b a c : List ℕ) (s : Store) (a₁ r₁ : List ℕ) (n : ℕ) (c₁ r₂ b₁ : List ℕ)
     → plain t ≡ true
     → decode r ≡ some s
     → length a ≡ 128
+    → length c ≡ 128
     → Did (call (readPacked t) r a) 0 a₁ (r₁ ∷ [])
-    → length t ≤ length b₁
-    → Did (writeCall r₁ b₁ a) n a₂ (r₂ ∷ b₂ ∷ [])
-    → (n ≡ 0) × (take (length t) b₂ ≡ t)
+    → length t ≤ length b
+    → Did (writeCall r₁ b c) n c₁ (r₂ ∷ b₁ ∷ [])
+    → (n ≡ 0) × (take (length t) b₁ ≡ t)
 
 -- ---- 2026-05: a caller gets of the two lock calls what the four gave, the number, the record and every byte of the region
 
