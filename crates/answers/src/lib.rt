@@ -1,4 +1,6 @@
 // What a call answers, and the record that is filled with it.
+#![tactic(auto)]
+
 ghost use Rattle.std.specs.Prelude.{◌≡◌, [], ◌∷◌, ◌++◌, length};
 ghost use Rattle.target.specs.Fields.{place_number};
 ghost use Rattle.model.specs.Numbers.{answer, row_places, target_places, refusal_answer};
@@ -9,7 +11,7 @@ use target::{Found, NameNumber, OptionTarget, Target};
 use transaction::Edit;
 
 // The answer record, 16 places of 8 bytes, and the numbers that calls return.
-#[derive(Drop)]
+#[derive(Clone, Copy)]
 pub struct Answer {}
 
 impl Answer {
@@ -81,7 +83,7 @@ impl Answer {
 }
 
 // What a call answers: its number, and every place of the record. So equal answers are equal verdicts.
-#[derive(Drop)]
+#[derive(Clone, Copy)]
 pub struct Verdict {
     pub number: u32,
     pub places: [u64; 16],

@@ -1,10 +1,12 @@
 // The calls that are to be made, each with its numbers and what it is to answer. They are kept in the notes, so that what a line of a
 // case asks for is settled before a call is made.
+#![tactic(auto)]
+
 use notes::{Note, Notes};
 
 // The calls: those that may change the region and take numbers alone; those that read it; and those that take bytes too. A number
 // can be put into the region as well.
-#[derive(Drop)]
+#[derive(Clone, Copy)]
 pub struct Call {}
 
 impl Call {
@@ -42,7 +44,7 @@ impl Call {
 }
 
 // What a lock is placed on and lifted from.
-#[derive(Drop)]
+#[derive(Clone, Copy)]
 pub struct Kind {}
 
 impl Kind {
@@ -53,7 +55,7 @@ impl Kind {
 
 // The numbers of one call: which it is, its own three, what it is to return, and which places of its record are judged: as many as
 // are said, from a place of the notes on, with zeros behind them. Three of them can stand here.
-#[derive(Drop)]
+#[derive(Clone, Copy)]
 struct Part {}
 
 impl Part {

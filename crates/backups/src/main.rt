@@ -1,6 +1,8 @@
 // Backups, through the exported calls: the packed table is written as text and read from one. Each answer is one line: what was asked, the number
 // and the first place. Behind a writing stand all bytes of its buffer, which were dots before. The file stdout has what docs/PACKED-TEXT.md says
 // of each.
+#![tactic(auto)]
+
 mod asks;
 mod full;
 mod readings;

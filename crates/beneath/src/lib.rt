@@ -1,4 +1,6 @@
 // Names beneath names: whether 25 refuses a row. The region's test, prepare and loads ask the same functions.
+#![tactic(auto)]
+
 ghost use Rattle.std.specs.Prelude.{◌≡◌, not, ◌<◌, length};
 ghost use Rattle.model.specs.Store.{entry_of, rows_in, is_none};
 ghost use Rattle.model.specs.Beneath.{is_loose, lies, loose_above, loose_beneath, would_write, will_write, meets_earlier, conflicts};

@@ -1,5 +1,7 @@
 // A region that is laid out so, but whose store breaks a rule: which, and where. The tests of the six groups decide; what is said
 // behind a group's heading is where it was found.
+#![tactic(auto)]
+
 ghost use Rattle.std.specs.Prelude.{◌<◌, length};
 ghost use Rattle.model.specs.Store.{count, rows_in};
 ghost use Rattle.region.specs.Region.{view, Laid};

@@ -1,5 +1,7 @@
 // The planner's message bus, through the exported calls: an edit list arrives in fragments. Each answer is one line: what was asked, the number,
 // the first place, how many bytes the receiver holds afterwards, and whether it is fresh. The file stdout has what docs/SPEC.md says of each.
+#![tactic(auto)]
+
 mod asks;
 
 use receiver::Receiver;

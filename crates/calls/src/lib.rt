@@ -1,5 +1,7 @@
 // The calls that look at no name: start, with a setting or with a settings record, which tests the region's size alone, and rollback.
 // What all calls have in common stands in specs and proofs.
+#![tactic(auto)]
+
 ghost use Rattle.std.specs.Prelude.{◌≡◌};
 ghost use Rattle.model.specs.Load.{setting_of};
 ghost use Rattle.model.specs.Reply.Call.{start, rollback};
@@ -13,7 +15,7 @@ use settings::Record;
 
 // ---- start
 
-#[derive(Drop)]
+#[derive(Clone, Copy)]
 pub enum OptionSetting {
     NoSetting,
     Setting(WriteReflog),

@@ -1,5 +1,7 @@
 // Commit: place by place the next write is asked for, judged (17, then 16), made and counted; then our locks are freed, and the
 // transaction is forgotten, as by a rollback.
+#![tactic(auto)]
+
 ghost use Rattle.std.specs.Prelude.{◌≡◌, true, ◌&&◌, [], ◌∷◌, ◌+◌, ◌<◌, ◌≤◌, length, eqb};
 ghost use Rattle.word.specs.Flags.{Flags};
 ghost use Rattle.model.specs.Store.{is_prepared, with_entries};
@@ -88,7 +90,7 @@ fn make(region: &mut [u8], next: OptionWrite)
 // ---- a turn
 
 // Why a run has stopped, if it has.
-#[derive(Drop)]
+#[derive(Clone, Copy)]
 pub enum Halt {
     GoesOn,
     NoCommitter,
@@ -96,7 +98,7 @@ pub enum Halt {
 }
 
 // How far a run has come: the allowance that is left, the writes made, and why it stopped.
-#[derive(Drop)]
+#[derive(Clone, Copy)]
 pub struct Ran {
     pub left: u64,
     pub made: u64,

@@ -1,5 +1,7 @@
 // The calls that a foreign program links. Each tests the answer record's size, makes the call and fills the record; its contract
 // fixes the number, every byte of the record and every byte of what is lent, the region first.
+#![tactic(auto)]
+
 ghost use Rattle.std.specs.Prelude.{[], ◌∷◌};
 ghost use Rattle.model.specs.Reply.Call.{start, add_name, name_bytes, load_loose, load_packed, place_lock, lift_lock};
 ghost use Rattle.model.specs.Reply.Call.{prepare, commit, rollback, read_name, read_line, read_row, read_packed};

@@ -1,5 +1,7 @@
 // The edit list: from bytes to edits. A list is first tested as a whole, then its name numbers against the count of names, by place;
 // then each edit is read. A link's number has 64 bits until it is known to be registered.
+#![tactic(auto)]
+
 ghost use Rattle.std.specs.Prelude.{◌≡◌, true, ◌&&◌, ◌+◌, ◌<◌, ◌≤◌, length, get_or, eqb, leb};
 ghost use Rattle.word.specs.Be.{cut, val};
 ghost use Rattle.word.specs.Codec.{is_some};
@@ -17,7 +19,7 @@ use transaction::{
 };
 
 // What stands where in a list, and in a record of 27 bytes.
-#[derive(Drop)]
+#[derive(Clone, Copy)]
 pub struct EditList {}
 
 impl EditList {
@@ -50,14 +52,14 @@ impl EditList {
     pub const MESSAGE: usize = 25;
 }
 
-#[derive(Drop)]
+#[derive(Clone, Copy)]
 pub enum OptionEdit {
     NoEdit,
     Edit(RefEdit),
 }
 
 // A name number that is not registered, with all its bits.
-#[derive(Drop)]
+#[derive(Clone, Copy)]
 pub enum OptionNumber {
     NoNumber,
     Number(u64),

@@ -1,5 +1,7 @@
 // A region that is not laid out so: which fields of the head are out of bounds, and which slot of a table is the first that does
 // not fit.
+#![tactic(auto)]
+
 ghost use Rattle.std.specs.Prelude.{◌≡◌, ◌+◌, ◌<◌, ◌≤◌, length};
 ghost use Rattle.region.specs.Layout.{region_size};
 ghost use Rattle.layout.specs.Tables.{limit_of};

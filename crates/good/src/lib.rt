@@ -1,4 +1,6 @@
 // The one test of a region: laid out so, and the store that is seen obeys the rules.
+#![tactic(auto)]
+
 ghost use Rattle.std.specs.Prelude.{◌≡◌};
 ghost use Rattle.model.specs.Fine.{fine};
 ghost use Rattle.region.specs.Region.{view, good, Laid};

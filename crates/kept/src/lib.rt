@@ -1,5 +1,7 @@
 // What the rules ask of all rows together: R2, whether the packed table is opened; R4, which locks are ours; and the room that the
 // due lines take.
+#![tactic(auto)]
+
 ghost use Rattle.std.specs.Prelude.{◌≡◌, true, ◌&&◌, cond, ◌<◌, ◌≤◌, length, set};
 ghost use Rattle.word.specs.Flags.{Flags, nowhere};
 ghost use Rattle.model.specs.Basic.{any, below};

@@ -1,4 +1,6 @@
 // The test of a region's layout: version, length, counts, and every slot of every table.
+#![tactic(auto)]
+
 ghost use Rattle.std.specs.Prelude.{◌≡◌, true, cond, ◌+◌, ◌*◌, ◌≤◌, length, eqb};
 ghost use Rattle.word.specs.Codec.{ok_table};
 ghost use Rattle.word.specs.Tests.{every};
@@ -13,7 +15,7 @@ use target::NameNumber;
 use transaction::{Edit, PackedRefs};
 
 // The tables of a region.
-#[derive(Drop)]
+#[derive(Clone, Copy)]
 pub enum Table {
     Names,
     Looses,

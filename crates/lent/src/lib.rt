@@ -1,5 +1,7 @@
 // The bytes that the calls lend: a region, an edit list and an answer record, at places that are written down anew here, so that a
 // wrong place in the library is seen.
+#![tactic(auto)]
+
 use notes::{Note, Notes};
 
 pub type Region = [u8; 49549];
@@ -12,7 +14,7 @@ pub type List = [u8; 895];
 // ---- the region
 
 // Where docs/LAYOUT.md has what no call tells, or none that changes nothing.
-#[derive(Drop)]
+#[derive(Clone, Copy)]
 pub struct At {}
 
 impl At {

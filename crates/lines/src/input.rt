@@ -5,7 +5,7 @@ use notes::{Note, Notes};
 // The bytes that were read and are still to be taken.
 pub type Input = [u8; 65536];
 
-#[derive(Drop)]
+#[derive(Clone, Copy)]
 enum Byte {
     Of(u8),
     Nothing,
@@ -13,7 +13,7 @@ enum Byte {
 
 // What became of a line: it stands whole, without its newline; it has more bytes than a line may have; it has no newline; or the
 // input is at its end.
-#[derive(Drop)]
+#[derive(Clone, Copy)]
 pub enum Taken {
     Whole,
     TooLong,
@@ -59,7 +59,7 @@ fn put(line: &mut Line, notes: &mut Notes, byte: u8) -> bool {
     true
 }
 
-#[derive(Drop)]
+#[derive(Clone, Copy)]
 enum Went {
     Goes,
     Ends,

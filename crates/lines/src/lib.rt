@@ -1,4 +1,6 @@
 // The lines of a file: words with one space between them. The first says what the line is, the others are numbers.
+#![tactic(auto)]
+
 pub mod input;
 pub mod words;
 

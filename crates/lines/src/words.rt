@@ -50,7 +50,7 @@ pub fn which(line: &Line, length: u64, table: &[u8]) -> u64 {
 
 // How far a line was read: still in its first word or not, how many numbers were put into the fields, the number that has begun,
 // if one has, and whether all so far was in the form.
-#[derive(Drop)]
+#[derive(Clone, Copy)]
 struct Scan {
     in_word: bool,
     count: u64,

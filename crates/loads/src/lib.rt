@@ -1,4 +1,6 @@
 // Loads: a loose or a packed value set while nothing is prepared.
+#![tactic(auto)]
+
 ghost use Rattle.std.specs.Prelude.{◌≡◌, ◌&&◌, not, eqb, ltb};
 ghost use Rattle.model.specs.Store.{count};
 ghost use Rattle.model.specs.Load.{nests};

@@ -1,5 +1,7 @@
 // Foreign locks: other programs hold a name, or the packed table. One call places a lock, one lifts it; what is locked is a value, so
 // nothing below the test of a caller's kind and number can cross the two.
+#![tactic(auto)]
+
 ghost use Rattle.std.specs.Prelude.{◌≡◌, true};
 ghost use Rattle.model.specs.Store.{is_lock};
 ghost use Rattle.model.specs.Reply.Call.{place_lock, lift_lock};
@@ -15,7 +17,7 @@ use target::OptionName;
 // ---- what is locked
 
 // What a kind and a number stand for, or why for nothing.
-#[derive(Drop)]
+#[derive(Clone, Copy)]
 pub enum Sought {
     Refused(Refusal),
     Found(Lockable),

@@ -1,8 +1,10 @@
 // The values that a store holds, and why a call is refused. What every call means stands in specs/.
+#![tactic(auto)]
+
 use target::{NameNumber, ObjectNumber, Target};
 
 // A name's loose value.
-#[derive(Drop)]
+#[derive(Clone, Copy)]
 pub enum Loose {
     None,
     Target(Target),
@@ -10,14 +12,14 @@ pub enum Loose {
 }
 
 // A name's packed value.
-#[derive(Drop)]
+#[derive(Clone, Copy)]
 pub enum Packed {
     None,
     Object(ObjectNumber),
 }
 
 // A lock, of a name or of the packed table.
-#[derive(Drop)]
+#[derive(Clone, Copy)]
 pub enum Lock {
     Free,
     Foreign,
@@ -25,7 +27,7 @@ pub enum Lock {
 }
 
 // What has a lock.
-#[derive(Drop)]
+#[derive(Clone, Copy)]
 pub enum Lockable {
     Name(NameNumber),
     PackedTable,
@@ -39,7 +41,7 @@ impl Lockable {
 }
 
 // The log setting, fixed at the start.
-#[derive(Drop)]
+#[derive(Clone, Copy)]
 pub enum WriteReflog {
     Disable,
     Normal,
@@ -55,7 +57,7 @@ impl WriteReflog {
 }
 
 // A line of the log. Previous is 0 where there was none.
-#[derive(Drop)]
+#[derive(Clone, Copy)]
 pub struct Line {
     pub name: NameNumber,
     pub previous: ObjectNumber,
@@ -65,7 +67,7 @@ pub struct Line {
 }
 
 // What may be missing where a line is looked for, or is due.
-#[derive(Drop)]
+#[derive(Clone, Copy)]
 pub enum OptionLine {
     NoLine,
     Line(Line),
@@ -80,7 +82,7 @@ impl Line {
 }
 
 // Why a call is refused, with what the caller is told. Named after the Rust's errors where it has one.
-#[derive(Drop)]
+#[derive(Clone, Copy)]
 pub enum Refusal {
     BadRegion,
     Malformed,
@@ -112,7 +114,7 @@ pub enum Refusal {
 }
 
 // What a part of prepare that may refuse comes to.
-#[derive(Drop)]
+#[derive(Clone, Copy)]
 pub enum Judged {
     Passed,
     Refused(Refusal),

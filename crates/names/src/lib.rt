@@ -1,5 +1,7 @@
 // Names: which byte strings are one, which names are packable and which are logged.
 // Every answer is that of a definition of crates/model/specs/Names.antt.
+#![tactic(auto)]
+
 use model::WriteReflog;
 use target::NameNumber;
 

@@ -1,4 +1,6 @@
 // Names: adding one, and its bytes as a stretch of the region.
+#![tactic(auto)]
+
 ghost use Rattle.std.specs.Prelude.{◌≡◌, true};
 ghost use Rattle.model.specs.Reply.Call.{add_name, name_bytes};
 ghost use Rattle.region.specs.Region.{good};

@@ -1,5 +1,7 @@
 // The region's rule on names beneath names: no loose value beneath another, and no row that 25 refuses. The names above a given one
 // end at its own slashes, so a name is looked at byte by byte, and compared only where a slash stands at the length of another.
+#![tactic(auto)]
+
 ghost use Rattle.std.specs.Prelude.{◌≡◌, true, cond, ◌<◌, length, set};
 ghost use Rattle.word.specs.Flags.{Flags, nowhere};
 ghost use Rattle.model.specs.Basic.{below};

@@ -1,7 +1,9 @@
 // What is kept from line to line: numbers, each at its place.
+#![tactic(auto)]
+
 pub type Notes = [u64; 12699];
 
-#[derive(Drop)]
+#[derive(Clone, Copy)]
 pub struct Note {}
 
 impl Note {

@@ -1,11 +1,13 @@
 // The lines of a recorded case: their words, which line may follow which in a block, and how many fields each has.
+#![tactic(auto)]
+
 pub mod faults;
 
 use lines::{Line, words};
 use notes::{Note, Notes};
 
 // The words, in the order in which they stand in a block. Rollback stands where commit does, and answer stands twice.
-#[derive(Drop)]
+#[derive(Clone, Copy)]
 pub struct Word {}
 
 impl Word {

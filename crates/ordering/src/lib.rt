@@ -1,5 +1,7 @@
 // The names that have a packed value, in byte order: by number, so that no name is copied. Each number is put in its place among those that are sorted,
 // which halving finds; names are compared as for 6.
+#![tactic(auto)]
+
 ghost use Rattle.std.specs.Prelude.{◌≡◌, true, ◌+◌, ◌≤◌, ◌<◌, length};
 ghost use Rattle.region.specs.Region.{view, good, Laid};
 ghost use Rattle.model.specs.Store.{count};

@@ -11,7 +11,7 @@ use target::NameNumber;
 // A row's numbers, in the order of its slot.
 type Row = [u64; 13];
 
-#[derive(Drop)]
+#[derive(Clone, Copy)]
 struct At {}
 
 impl At {

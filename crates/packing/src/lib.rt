@@ -1,4 +1,6 @@
 // The packed table as text, on plain values: written into a buffer, and read in the place of the whole table.
+#![tactic(auto)]
+
 ghost use Rattle.model.specs.Reply.Call.{read_packed};
 ghost use Rattle.calls.specs.Call.{reply_to, Replied, Wrote};
 

@@ -1,5 +1,7 @@
 // The lines of a block, each as it comes: what it says is kept, or the calls are asked for that make the store so, or that show what a
 // call left.
+#![tactic(auto)]
+
 mod judge;
 mod setup;
 

@@ -1,5 +1,7 @@
 // Prepare: the list and the mode are read (2, 3), the rows are built in the region's own table and judged (4 to 14), and only then
 // locks are taken (R2, R4). A refusal after the first row was written gives every byte back.
+#![tactic(auto)]
+
 ghost use Rattle.std.specs.Prelude.{◌≡◌, true, ◌&&◌, [], ◌∷◌, map, ◌<◌, length};
 ghost use Rattle.std.proofs.Math.Option.{none};
 ghost use Rattle.word.specs.Codec.{is_some};

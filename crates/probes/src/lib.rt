@@ -1,5 +1,7 @@
 // Calls that no recorded case makes, since the Rust has nothing that answers as they do: what docs/SPEC.md says of them. They are asked
 // for in stages, behind the last case: a stage's calls are made before the next stage begins.
+#![tactic(auto)]
+
 use asks::{Call, Kind};
 use lent::Region;
 use lines::Line;

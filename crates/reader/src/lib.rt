@@ -1,4 +1,6 @@
 // Reads settings records. Each part of the code is handed a part of the record, and answers what the format's definition reads there.
+#![tactic(auto)]
+
 ghost use Rattle.std.specs.Prelude.{◌≡◌, ◌<◌, ◌≤◌, length, drop};
 ghost use Rattle.settings.specs.Format.{has_site, entry_in, number_in, committer_in, committers_in, site_in, entries_in, settings_in, read};
 ghost use Rattle.reader.specs.Reading.{length_option, number_option, size_in, value_in, heading_in, heading_option, count_in, tail_in};
@@ -9,39 +11,39 @@ use model::WriteReflog;
 use settings::{Heading, Record, Site, Tag};
 use transaction::PackedRefs;
 
-#[derive(Drop)]
+#[derive(Clone, Copy)]
 pub enum OptionLength {
     NoLength,
     Length(usize),
 }
 
-#[derive(Drop)]
+#[derive(Clone, Copy)]
 pub enum OptionNumber {
     NoNumber,
     Number(u64),
 }
 
-#[derive(Drop)]
+#[derive(Clone, Copy)]
 pub enum OptionHeading {
     NoHeading,
     Heading(Heading),
 }
 
 // What stands behind the settings of one byte: how many committers, and the site.
-#[derive(Drop)]
+#[derive(Clone, Copy)]
 pub struct Tail {
     pub committers: u64,
     pub site: u64,
 }
 
-#[derive(Drop)]
+#[derive(Clone, Copy)]
 pub enum OptionTail {
     NoTail,
     Tail(Tail),
 }
 
 // What reading a record tells.
-#[derive(Drop)]
+#[derive(Clone, Copy)]
 pub struct Summary {
     pub log: u64,
     pub mode: u64,
@@ -49,13 +51,13 @@ pub struct Summary {
     pub committers: u64,
 }
 
-#[derive(Drop)]
+#[derive(Clone, Copy)]
 pub enum OptionSummary {
     NoSummary,
     Summary(Summary),
 }
 
-#[derive(Drop)]
+#[derive(Clone, Copy)]
 pub enum Reading {
     Unknown,
     Malformed,
@@ -63,14 +65,14 @@ pub enum Reading {
 }
 
 // A committer's number, and where its name stands.
-#[derive(Drop)]
+#[derive(Clone, Copy)]
 pub struct Stretch {
     pub number: u64,
     pub at: usize,
     pub length: usize,
 }
 
-#[derive(Drop)]
+#[derive(Clone, Copy)]
 pub enum Finding {
     Unknown,
     Malformed,

@@ -1,5 +1,7 @@
 // Reads: a name's value with the place where it is found, a line of its log, and a row of the prepared transaction with the
 // place where its existing value was.
+#![tactic(auto)]
+
 ghost use Rattle.model.specs.Reply.Call.{read_name, read_line, read_row};
 ghost use Rattle.calls.specs.Call.{reply_to, Replied};
 

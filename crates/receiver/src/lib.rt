@@ -1,10 +1,12 @@
 // The receiver of a list of edits in fragments, as bytes: whether it is good, what it holds, and the two ways in which it changes.
+#![tactic(auto)]
+
 ghost use Rattle.std.specs.Prelude.{◌≡◌, ◌++◌, ◌+◌, ◌≤◌, length};
 ghost use Rattle.word.specs.Be.{cut, val};
 ghost use Rattle.receiver.specs.Receiver.{capacity, receiver_size, holding, fresh, held, is_receiver, Good};
 
 // Its size, and where its parts stand.
-#[derive(Drop)]
+#[derive(Clone, Copy)]
 pub struct Receiver {}
 
 impl Receiver {

@@ -1,4 +1,6 @@
 // The calls on a receiver, on plain values: a fresh one, a fragment, and closing, which gives what it holds to prepare.
+#![tactic(auto)]
+
 ghost use Rattle.calls.specs.Call.{Closed, Keeps};
 ghost use Rattle.receiving.specs.Fragments.{received};
 ghost use Rattle.receiving.specs.Fragments.ReceiverCall.{fresh_receiver, take_fragment};

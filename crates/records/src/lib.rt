@@ -1,4 +1,6 @@
 // The calls on a settings record, on plain values: each judges a record or a buffer and gives a verdict.
+#![tactic(auto)]
+
 ghost use Rattle.std.specs.Prelude.{◌≡◌};
 ghost use Rattle.settings.specs.Lent.{settings_given, committers_given};
 ghost use Rattle.calls.specs.Call.{Keeps};

@@ -1,5 +1,7 @@
 // The region: what is read in it, as a store. Every accessor asks for a region that is laid out so (Laid). Crate writers has the
 // accessors that write.
+#![tactic(auto)]
+
 ghost use Rattle.std.specs.Prelude.{◌≡◌, ◌<◌, length, get_or};
 ghost use Rattle.target.specs.Fields.{name_below};
 ghost use Rattle.model.specs.Store.{count, entry_of, rows_in, mode_in, no_line, no_row};
@@ -12,7 +14,7 @@ use target::{NameNumber, ObjectNumber, OptionName, Target};
 use transaction::{Change, Edit, LogChange, OptionPackedRefs, PackedRefs, PreviousValue, RefEdit};
 
 // Where each part of a store stands, in bytes: the fields of the head, the tables, and how wide their slots are.
-#[derive(Drop)]
+#[derive(Clone, Copy)]
 pub struct Layout {}
 
 impl Layout {

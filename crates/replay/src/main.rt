@@ -1,6 +1,8 @@
 // Replays recorded cases: each is a store, an edit list and what the Rust original answered. The calls are made on the proved
 // library, and each number that is not the recorded one is printed. The last line says how many cases were replayed and how many
 // of them differ. Standard input has the cases, in the form that tests/rust/FORMAT.md says.
+#![tactic(auto)]
+
 mod entries;
 
 use lent::Region;

@@ -1,4 +1,6 @@
 // What the programs write: a line for each difference, and one at the end.
+#![tactic(auto)]
+
 use notes::{Note, Notes};
 
 fn say_where(notes: &Notes, what: &[u8]) {

@@ -1,5 +1,7 @@
 // What the rules ask of one row, by value: R2, R4, and the log line that it is due. The region's test, prepare and commit ask the
 // same functions. The names are those of the scope.
+#![tactic(auto)]
+
 ghost use Rattle.std.specs.Prelude.{◌≡◌, not};
 ghost use Rattle.word.specs.Flags.{Flags, nowhere};
 ghost use Rattle.target.specs.Target.{same_object};
@@ -189,7 +191,7 @@ pub fn is_logged(region: &[u8], has: bool, row: Edit) -> bool
 }
 
 // What a line tells: the object before (0 if none) and the object after.
-#[derive(Drop)]
+#[derive(Clone, Copy)]
 pub enum OptionMove {
     NoMove,
     Moved(ObjectNumber, ObjectNumber),

@@ -1,4 +1,6 @@
 // The rules of a store, tested through the region's accessors: names and values, lines, rows.
+#![tactic(auto)]
+
 ghost use Rattle.std.specs.Prelude.{◌≡◌, not, ◌+◌, ◌<◌, ◌≤◌, length};
 ghost use Rattle.word.specs.Flags.{Flags, nowhere};
 ghost use Rattle.model.specs.Basic.{below};

@@ -1,4 +1,6 @@
 // What is written to standard output: texts, numbers, and the blanks that keep columns straight.
+#![tactic(auto)]
+
 use libc::STDOUT_FILENO;
 
 pub fn text(bytes: &[u8]) {

@@ -1,4 +1,6 @@
 // Writes settings records. All is judged before the first byte is written, so that a refusal leaves the buffer as it is.
+#![tactic(auto)]
+
 ghost use Rattle.std.specs.Prelude.{◌≡◌, ◌&&◌, ◌+◌, ◌<◌, length, ltb, leb};
 ghost use Rattle.word.specs.Be.{be};
 ghost use Rattle.settings.specs.Format.{within, entry, listed, form};
@@ -9,7 +11,7 @@ use model::WriteReflog;
 use settings::{Heading, Record, Site, Tag};
 use transaction::PackedRefs;
 
-#[derive(Drop)]
+#[derive(Clone, Copy)]
 pub enum Writing {
     Unknown,
     Malformed,

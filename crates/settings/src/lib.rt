@@ -1,10 +1,12 @@
 // The settings record, by name: its versions, tags and limits, and where its parts stand. What a record means stands in specs/, and what is
 // proved of it in proofs/. Crate reader reads records, crate scribe writes them.
+#![tactic(auto)]
+
 ghost use Rattle.std.specs.Prelude.{◌≡◌};
 ghost use Rattle.settings.specs.Format.{is_version};
 
 // A record: its versions, and where its parts stand that have a fixed place.
-#[derive(Drop)]
+#[derive(Clone, Copy)]
 pub struct Record {}
 
 impl Record {
@@ -29,7 +31,7 @@ impl Record {
 }
 
 // An entry: the length of its rest in 2 bytes, its tag, its content.
-#[derive(Drop)]
+#[derive(Clone, Copy)]
 pub struct Tag {}
 
 impl Tag {
@@ -51,7 +53,7 @@ impl Tag {
 }
 
 // The site's number.
-#[derive(Drop)]
+#[derive(Clone, Copy)]
 pub struct Site {}
 
 impl Site {
@@ -63,7 +65,7 @@ impl Site {
 }
 
 // What stands before a committer's name: its number, and how long the name is.
-#[derive(Drop)]
+#[derive(Clone, Copy)]
 pub struct Heading {
     pub number: u64,
     pub length: usize,

@@ -1,5 +1,7 @@
 // A site's settings, through the exported calls: records are written, read by an older and a newer reader, damaged, and started with. Each
 // answer is one line: what was asked, the number, and the first four places. The file stdout has what docs/SETTINGS.md says of each.
+#![tactic(auto)]
+
 mod asks;
 mod bounds;
 

@@ -1,5 +1,7 @@
 // The forms of a store's values in slots of bytes: a loose value, a packed value, a lock, a log line and a row, each read and
 // written at the region's edge. Reading a slot finds a value, or none where the bytes are no form of one.
+#![tactic(auto)]
+
 ghost use Rattle.std.specs.Prelude.{◌≡◌, ◌+◌, ◌≤◌, ◌<◌, length, get_or};
 ghost use Rattle.word.specs.Be.{val};
 ghost use Rattle.word.specs.Fields.{unfields};
@@ -20,7 +22,7 @@ use transaction::{
 
 // ---- a loose value: a kind and a number
 
-#[derive(Drop)]
+#[derive(Clone, Copy)]
 pub enum OptionLoose {
     NoLoose,
     Loose(Loose),
@@ -131,7 +133,7 @@ pub fn put_packed(slot: &mut [u8], v: Packed)
 
 // ---- a lock: 0 free, 1 foreign, 2 ours
 
-#[derive(Drop)]
+#[derive(Clone, Copy)]
 pub enum OptionLock {
     NoLock,
     Lock(Lock),
@@ -217,25 +219,25 @@ pub fn put_line(slot: &mut [u8], line: Line)
 
 // ---- a row: thirteen numbers, each at its place in the slot
 
-#[derive(Drop)]
+#[derive(Clone, Copy)]
 pub enum OptionRow {
     NoRow,
     Row(Edit),
 }
 
-#[derive(Drop)]
+#[derive(Clone, Copy)]
 pub enum OptionParent {
     NoPlace,
     Place(ParentIndex),
 }
 
-#[derive(Drop)]
+#[derive(Clone, Copy)]
 pub enum OptionOptionTarget {
     NoTarget,
     Target(OptionTarget),
 }
 
-#[derive(Drop)]
+#[derive(Clone, Copy)]
 pub enum OptionChange {
     NoChange,
     Change(Change),

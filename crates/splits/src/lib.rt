@@ -1,6 +1,8 @@
 // The port of gix-ref's src/transaction/ext.rs, on rows in the region's own table: the splits of symbolic refs (R1), and the
 // duplicates that are judged after it. A row in the table has no mark that its name is to be followed: the first round is told by the
 // edit list, and in every later round each newest row is.
+#![tactic(auto)]
+
 ghost use Rattle.std.specs.Prelude.{◌≡◌, true, [], ◌∷◌, map, ◌+◌, ◌-◌, ◌<◌, ◌≤◌, length, drop, replicate};
 ghost use Rattle.word.specs.Codec.{is_some};
 ghost use Rattle.word.specs.Flags.{Flags, nowhere};

@@ -1,4 +1,6 @@
 // What the calls are made of: functions on a region that is laid out so, each by what the model's call does.
+#![tactic(auto)]
+
 ghost use Rattle.std.specs.Prelude.{◌≡◌, ◌&&◌, eqb};
 ghost use Rattle.model.specs.Store.{count, entry_of, lines_of};
 ghost use Rattle.model.specs.Read.{packed_seen, found_in, found_of, value_of};
@@ -35,7 +37,7 @@ pub fn find_name(region: &[u8], name: &[u8]) -> OptionName
 // ---- loads
 
 // A packed value of a kind and a number, on a name that is packable or not.
-#[derive(Drop)]
+#[derive(Clone, Copy)]
 pub enum OptionPacked {
     NoPacked,
     Packed(Packed),

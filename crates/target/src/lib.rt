@@ -2,6 +2,8 @@
 //
 // An object number stands for the Rust's ObjectId, a name number for its FullName. The planner has confused the two
 // counts before, so each is a type of its own. Option<T> becomes an enum for each T.
+#![tactic(auto)]
+
 ghost use Rattle.std.specs.Prelude.{◌≡◌, ◌<◌, ◌≤◌};
 ghost use Rattle.target.specs.Target.{is_null, kind_of, try_id, try_name, same, same_name, same_object, same_option};
 ghost use Rattle.target.specs.Target.{is_object, is_symbolic};
@@ -9,11 +11,11 @@ ghost use Rattle.target.specs.Fields.{name_below, object_of, target_byte, target
 ghost use Rattle.target.specs.Found.{value_in};
 
 // The number of a registered name, from 0 in order of arrival.
-#[derive(Drop)]
+#[derive(Clone, Copy)]
 pub struct NameNumber(pub u16);
 
 // What may be missing where a name is looked for: a found symbolic link, or Target::try_name.
-#[derive(Drop)]
+#[derive(Clone, Copy)]
 pub enum OptionName {
     NoName,
     Name(NameNumber),
@@ -59,11 +61,11 @@ impl NameNumber {
 }
 
 // The number of an object, 1 to 2^64-1. 0 is the null id and never a target.
-#[derive(Drop)]
+#[derive(Clone, Copy)]
 pub struct ObjectNumber(pub u64);
 
 // What may be missing where an object is looked for.
-#[derive(Drop)]
+#[derive(Clone, Copy)]
 pub enum OptionObject {
     NoId,
     Id(ObjectNumber),
@@ -97,21 +99,21 @@ impl ObjectNumber {
 }
 
 // The kind of a target.
-#[derive(Drop)]
+#[derive(Clone, Copy)]
 pub enum Kind {
     Object,
     Symbolic,
 }
 
 // An object, or a symbolic link to a registered name.
-#[derive(Drop)]
+#[derive(Clone, Copy)]
 pub enum Target {
     Object(ObjectNumber),
     Symbolic(NameNumber),
 }
 
 // What may be missing where a target is looked for: an existing target, or an expected one.
-#[derive(Drop)]
+#[derive(Clone, Copy)]
 pub enum OptionTarget {
     Absent,
     Present(Target),
@@ -234,7 +236,7 @@ impl OptionTarget {
 }
 
 // What reading a name comes to: the value, and the place where it was found. A broken loose value hides no packed one.
-#[derive(Drop)]
+#[derive(Clone, Copy)]
 pub enum Found {
     Loose(Target),
     Packed(ObjectNumber),

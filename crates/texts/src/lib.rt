@@ -1,5 +1,7 @@
 // The packed table's text, with no region: a ref line as it is written, and what a line says. Module walk goes through a whole text.
 // Every answer is that of a definition of crates/model/specs/PackedText.antt.
+#![tactic(auto)]
+
 ghost use Rattle.std.specs.Prelude.{◌≡◌, true, ◌&&◌, [], ◌∷◌, ◌++◌, ◌+◌, ◌<◌, length};
 ghost use Rattle.model.specs.Basic.{all};
 ghost use Rattle.model.specs.PackedText.{digit, digits_on, ref_line, is_digit, digit_value, digits_from, ref_in, is_peeled};
@@ -8,7 +10,7 @@ ghost use Rattle.texts.specs.Lines.{Digits, ref_by, SaysRef, SaysLine};
 pub mod walk;
 
 // A ref line: 40 digits, of which the first 24 are zeros, a space, the name, a line feed.
-#[derive(Drop)]
+#[derive(Clone, Copy)]
 pub struct RefLine {}
 
 impl RefLine {
@@ -126,7 +128,7 @@ fn number(digits: &[u8]) -> u64
 // ---- what a line says, without its line feed
 
 // What may be missing where a ref line is looked for: its object, which may be 0.
-#[derive(Drop)]
+#[derive(Clone, Copy)]
 pub enum OptionNumber {
     NoNumber,
     Number(u64),
@@ -178,7 +180,7 @@ fn is_peeled_after(line: &[u8], direct: bool) -> bool
 }
 
 // What a line says, by the model's definition: why it is at fault, nothing, or a ref.
-#[derive(Drop)]
+#[derive(Clone, Copy)]
 pub enum Said {
     Malformed,
     Unpackable,

@@ -5,7 +5,7 @@ ghost use Rattle.texts.specs.Walk.{unended_as, past_as, Roomy, At, Goes, Checks}
 use crate::{RefLine, Said};
 
 // How a text ends: whole, or with a line at fault, which is malformed or says what cannot be loaded.
-#[derive(Drop)]
+#[derive(Clone, Copy)]
 pub enum Ending {
     Whole,
     Malformed,
@@ -14,7 +14,7 @@ pub enum Ending {
 
 // Where a line begins, with what must be known of those before it: how many there are, how many of them are ref lines, where the name of the
 // last of these stands, and whether that is the line just before.
-#[derive(Drop)]
+#[derive(Clone, Copy)]
 pub struct Place {
     pub at: usize,
     pub lines: u64,
@@ -24,7 +24,7 @@ pub struct Place {
     pub direct: bool,
 }
 
-#[derive(Drop)]
+#[derive(Clone, Copy)]
 pub enum Next {
     Stopped(Ending),
     Going(Place),
@@ -86,7 +86,7 @@ fn next_line(text: &[u8], place: Place) -> Next
 
 // What a text comes to: how many lines stand before its end or before the first one at fault, how many of them are ref lines, and which of
 // the two it is.
-#[derive(Drop)]
+#[derive(Clone, Copy)]
 pub struct Checked {
     pub lines: u64,
     pub refs: u64,

@@ -1,4 +1,6 @@
 // What a case says of its store, kept until a call has made it so; and what the region has where no call tells it.
+#![tactic(auto)]
+
 use lent::{At, Region};
 use notes::{Note, Notes};
 

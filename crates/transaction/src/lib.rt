@@ -1,5 +1,7 @@
 // Edits, and the rows that they become. The port of gix-ref's src/transaction/mod.rs, and the declarations of
 // src/store/file/transaction/mod.rs that a store holds: the row (Edit) and PackedRefs.
+#![tactic(auto)]
+
 ghost use Rattle.std.specs.Prelude.{◌≡◌};
 ghost use Rattle.transaction.specs.Change.{new_value, previous_value, previous_oid, default_log, expected_target, row_of};
 ghost use Rattle.transaction.specs.Change.{expected_of, log_change, is_log_only, is_delete, matched, existing_in};
@@ -10,13 +12,13 @@ ghost use Rattle.transaction.specs.Same.{same_ref_log, same_log_change, same_pre
 use target::{NameNumber, ObjectNumber, OptionObject, OptionTarget, Target};
 
 // Whether an edit changes the reference and its log, or the log only.
-#[derive(Drop)]
+#[derive(Clone, Copy)]
 pub enum RefLog {
     AndReference,
     Only,
 }
 
-#[derive(Drop)]
+#[derive(Clone, Copy)]
 pub enum OptionRefLog {
     NoRefLog,
     RefLog(RefLog),
@@ -54,7 +56,7 @@ impl RefLog {
 }
 
 // A change to a name's log.
-#[derive(Drop)]
+#[derive(Clone, Copy)]
 pub struct LogChange {
     pub mode: RefLog,
     // Make a line even where the log setting alone would make none.
@@ -89,7 +91,7 @@ impl LogChange {
 }
 
 // What an edit expects of the value that it replaces.
-#[derive(Drop)]
+#[derive(Clone, Copy)]
 pub enum PreviousValue {
     Any,
     MustExist,
@@ -98,7 +100,7 @@ pub enum PreviousValue {
     ExistingMustMatch(Target),
 }
 
-#[derive(Drop)]
+#[derive(Clone, Copy)]
 pub enum OptionPrevious {
     NoPrevious,
     Previous(PreviousValue),
@@ -188,7 +190,7 @@ impl PreviousValue {
 }
 
 // What an edit does to its name.
-#[derive(Drop)]
+#[derive(Clone, Copy)]
 pub enum Change {
     Update {
         log: LogChange,
@@ -367,7 +369,7 @@ fn same_delete(expected: PreviousValue, log: RefLog, expected2: PreviousValue, l
 }
 
 // A change to a name. With `deref` it is made through the name's symbolic links.
-#[derive(Drop)]
+#[derive(Clone, Copy)]
 pub struct RefEdit {
     pub change: Change,
     pub name: NameNumber,
@@ -408,14 +410,14 @@ impl RefEdit {
 }
 
 // The place of the row that a row was split from.
-#[derive(Drop)]
+#[derive(Clone, Copy)]
 pub enum ParentIndex {
     NoParent,
     Parent(usize),
 }
 
 // A row of a prepared transaction.
-#[derive(Drop)]
+#[derive(Clone, Copy)]
 pub struct Edit {
     pub update: RefEdit,
     // The row that this one was split from, where its name was reached through a symbolic link.
@@ -443,14 +445,14 @@ impl Edit {
 }
 
 // How a transaction treats the packed table.
-#[derive(Drop)]
+#[derive(Clone, Copy)]
 pub enum PackedRefs {
     DeletionsOnly,
     DeletionsAndNonSymbolicUpdates,
     DeletionsAndNonSymbolicUpdatesRemoveLooseSourceReference,
 }
 
-#[derive(Drop)]
+#[derive(Clone, Copy)]
 pub enum OptionPackedRefs {
     NoMode,
     Mode(PackedRefs),

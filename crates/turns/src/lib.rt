@@ -1,5 +1,7 @@
 // R3 to R5, row by row, on the region's own table: the port of gix-ref's src/store/file/transaction/prepare.rs. A row's turn is judged
 // (25, then 8, then 9 to 13), then what was found replaces what was expected, and its object goes to the row's ancestors.
+#![tactic(auto)]
+
 ghost use Rattle.std.specs.Prelude.{◌≡◌, ◌<◌, length, set};
 ghost use Rattle.model.specs.Store.{entry_of, rows_in, is_lock, with_rows};
 ghost use Rattle.model.specs.Rows.{row_at, ancestors, topmost};

@@ -1,5 +1,7 @@
 // Bytes: big-endian numbers of one to eight of them, and what every other layer does with a part of a slice. One reader and one
 // writer serve every width: the width is the length of the part that is lent.
+#![tactic(auto)]
+
 ghost use Rattle.std.specs.Prelude.{◌≡◌, true, false, ◌&&◌, ◌+◌, ◌≤◌, length, get_or, replicate, set, eqb};
 ghost use Rattle.word.specs.Be.{cut, val, be};
 ghost use Rattle.word.specs.Cut.{put};

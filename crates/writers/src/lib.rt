@@ -1,5 +1,7 @@
 // The region written: every accessor asks for a region that is laid out so (Laid), and leaves one (Became), in which the changed
 // store is seen.
+#![tactic(auto)]
+
 ghost use Rattle.std.specs.Prelude.{◌≡◌, true, not, [], ◌∷◌, ◌++◌, ◌≤◌, ◌<◌, length, take, set};
 ghost use Rattle.std.proofs.Math.Option.{none, some};
 ghost use Rattle.model.specs.Basic.{select};

@@ -1,5 +1,7 @@
 // The next write of commit as a value: decided here, made in crate committing. All writes stand in one list, by places: a place is
 // a row's turn in W1, in W2 or in W4, or the packed write (W3). Who asks for the writes need not make them.
+#![tactic(auto)]
+
 ghost use Rattle.std.specs.Prelude.{◌≡◌, true, ◌||◌, not, map, ◌<◌, length};
 ghost use Rattle.transaction.specs.Change.{is_delete};
 ghost use Rattle.model.specs.Basic.{is_empty};
@@ -19,7 +21,7 @@ use target::{NameNumber, OptionTarget, Target};
 use transaction::{Edit, PackedRefs};
 
 // Which write, and for which name. The packed write's edits are those of the rows.
-#[derive(Drop)]
+#[derive(Clone, Copy)]
 pub enum OptionWrite {
     NoWrite,
     AppendLine(Line),
@@ -96,7 +98,7 @@ fn next_log(region: &[u8], flags: &[bool], i: usize) -> OptionWrite
 // ---- W3
 
 // What becomes of a name's packed value.
-#[derive(Drop)]
+#[derive(Clone, Copy)]
 pub enum OptionPackedEdit {
     NoPackedEdit,
     Sets(Packed),
