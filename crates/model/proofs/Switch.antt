@@ -148,7 +148,7 @@ module _ {W X : Type 0} {t : W → X → X} where
 
   pub quiet_append : {xs ys : List W} → Quiet t xs → Quiet t ys → Quiet t (xs ++ ys)
   quiet_append {xs = []} p q = q
-  quiet_append {xs = w ∷ xs} p q = quiet_cons (λ x. p.calm x 1) (quiet_append (quiet_rest p) q)
+  quiet_append {xs = w ∷ xs} p q = quiet_cons (λ x. p.calm x 1) (quiet_append {xs = xs} (quiet_rest p) q)
 
   pub quiet_when : (b : Bool) (w : W) → ((x : X) → t w x ≡ x) → Quiet t (when b w)
   quiet_when true w h = quiet_cons h quiet_none

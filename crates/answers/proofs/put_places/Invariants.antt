@@ -1,0 +1,17 @@
+use mathlib.Core.Path.{◌≡◌, refl}
+use Prim.Native.Nat.{◌*◌, ◌-◌, ◌≤◌}
+use native.Mathlib.Omega.{arith}
+use lib.ListN.{length, take}
+use borrow.Author.Rules.{rules}
+use Rattle.word.specs.Be.{be}
+use Rattle.model.specs.Basic.{collect}
+use Rattle.answers.proofs.Laws.{turn, end}
+use Rattle.answers.proofs.put_places.Given as goal
+
+-- `put_places` meets its contract: the first i places stand in the first i * 8 bytes. Assumes nothing.
+abbrev pub invariant-loop-i : goal.invariant-loop-i
+invariant-loop-i l =
+    (l.i ≤ 16) × (length l.answer ≡ 128) × (length l.places ≡ 16) × (take (l.i * 8) l.answer ≡ collect (be 8) (take l.i l.places))
+
+abbrev pub decreases-loop-i : goal.decreases-loop-i
+decreases-loop-i l = 16 - l.i

@@ -1,0 +1,6 @@
+use borrow.Author.Rules.{rules}
+use Rattle.answers.proofs.Laws.{row_is}
+use Rattle.answers.proofs.row_places.Goals as goal
+
+pub returns : goal.returns
+returns c = search row_is

@@ -1,0 +1,13 @@
+use Prim.Native.Nat.{◌-◌}
+use Rattle.word.proofs.Tests.{Unmet}
+use Rattle.region.specs.Region.{view}
+use Rattle.beneath.specs.Facing.{facing}
+use borrow.Author.Rules.{rules}
+use Rattle.beneath.proofs.Laws.{facing_start, facing_more, facing_here, facing_end}
+use Rattle.beneath.proofs.any_facing.Given as goal
+
+abbrev pub invariant-loop-m : goal.invariant-loop-m
+invariant-loop-m l = Unmet (facing l.up (view l.region) l.name.0) l.count l.m
+
+abbrev pub decreases-loop-m : goal.decreases-loop-m
+decreases-loop-m l = l.count - l.m

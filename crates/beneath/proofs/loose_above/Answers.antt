@@ -1,0 +1,6 @@
+use borrow.Author.Rules.{rules}
+use Rattle.beneath.proofs.Laws.{above_is}
+use Rattle.beneath.proofs.loose_above.Goals as goal
+
+pub returns : goal.returns
+returns c = search above_is

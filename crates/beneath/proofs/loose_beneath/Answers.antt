@@ -1,0 +1,6 @@
+use borrow.Author.Rules.{rules}
+use Rattle.beneath.proofs.Laws.{beneath_is}
+use Rattle.beneath.proofs.loose_beneath.Goals as goal
+
+pub returns : goal.returns
+returns c = search beneath_is

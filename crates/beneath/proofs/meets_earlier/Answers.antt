@@ -1,0 +1,23 @@
+use Prim.Native.Nat.{◌-◌}
+use Rattle.word.proofs.Tests.{Unmet}
+use Rattle.model.specs.Store.{rows_in}
+use Rattle.region.specs.Region.{view}
+use Rattle.beneath.specs.Facing.{meets}
+use borrow.Author.Rules.{rules}
+use Rattle.beneath.proofs.Laws.{earlier_start, earlier_more, earlier_here, earlier_end, row_inside}
+use Rattle.beneath.proofs.meets_earlier.Goals as goal
+
+pub loop-j-init : goal.loop-j-init
+loop-j-init c = search earlier_start
+
+pub meets_row-yes-requires : goal.meets_row-yes-requires
+meets_row-yes-requires c = (search rules, search row_inside)
+
+pub returns-then-yes : goal.returns-then-yes
+returns-then-yes c = search earlier_here
+
+pub loop-j-preserved : goal.loop-j-preserved
+loop-j-preserved c = search earlier_more
+
+pub returns : goal.returns
+returns c = search earlier_end

@@ -1,0 +1,14 @@
+use Prim.Native.Nat.{◌-◌}
+use Rattle.word.proofs.Tests.{Unmet}
+use Rattle.model.specs.Store.{rows_in}
+use Rattle.region.specs.Region.{view}
+use Rattle.beneath.specs.Facing.{meets}
+use borrow.Author.Rules.{rules}
+use Rattle.beneath.proofs.Laws.{earlier_start, earlier_more, earlier_here, earlier_end, row_inside}
+use Rattle.beneath.proofs.meets_earlier.Given as goal
+
+abbrev pub invariant-loop-j : goal.invariant-loop-j
+invariant-loop-j l = Unmet (meets (view l.region) l.mode (rows_in (view l.region).prepared) l.name.0) l.i l.j
+
+abbrev pub decreases-loop-j : goal.decreases-loop-j
+decreases-loop-j l = l.i - l.j

@@ -1,0 +1,11 @@
+use mathlib.Core.Path.{◌≡◌}
+use Prim.Native.Nat.{◌≤◌, ◌-◌}
+use lib.ListN.{length}
+use borrow.Author.Rules.{rules}
+use Rattle.bus.proofs.bytes.Given as goal
+
+abbrev pub invariant-loop-i : goal.invariant-loop-i
+invariant-loop-i l = (l.i ≤ 31) × (length l.receiver ≡ length l.initial.receiver)
+
+abbrev pub decreases-loop-i : goal.decreases-loop-i
+decreases-loop-i l = 31 - l.i

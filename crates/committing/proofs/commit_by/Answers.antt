@@ -1,0 +1,6 @@
+use borrow.Author.Rules.{rules}
+use Rattle.committing.proofs.Ended.{commit_over}
+use Rattle.committing.proofs.commit_by.Goals as goal
+
+pub returns : goal.returns
+returns c = search commit_over

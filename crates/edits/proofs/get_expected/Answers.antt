@@ -1,0 +1,9 @@
+use Rattle.edits.proofs.Laws.{no_expected, expected_in}
+use borrow.Author.Rules.{rules}
+use Rattle.edits.proofs.get_expected.Goals as goal
+
+pub returns-in_default : goal.returns-in_default
+returns-in_default c = search no_expected
+
+pub returns : goal.returns
+returns c = search expected_in

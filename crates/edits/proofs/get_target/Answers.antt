@@ -1,0 +1,6 @@
+use Rattle.edits.proofs.Laws.{target_in}
+use borrow.Author.Rules.{rules}
+use Rattle.edits.proofs.get_target.Goals as goal
+
+pub returns : goal.returns
+returns c = search target_in

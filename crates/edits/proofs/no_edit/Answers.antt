@@ -1,0 +1,6 @@
+use Rattle.edits.proofs.Laws.{no_edit_lem}
+use borrow.Author.Rules.{rules}
+use Rattle.edits.proofs.no_edit.Goals as goal
+
+pub returns : goal.returns
+returns c = search no_edit_lem

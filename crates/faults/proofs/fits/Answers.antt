@@ -1,0 +1,15 @@
+use borrow.Author.Rules.{rules}
+use Rattle.faults.proofs.Slots.{slot_offset, slot_from, slot_ends}
+use Rattle.faults.proofs.fits.Goals as goal
+
+pub overflow_mul-at : goal.overflow_mul-at
+overflow_mul-at c = search slot_offset
+
+pub overflow_add-at : goal.overflow_add-at
+overflow_add-at c = search slot_from
+
+pub slots_ok-requires : goal.slots_ok-requires
+slots_ok-requires c = (search rules, (search slot_ends, (search rules, (search rules, search rules))))
+
+pub slots_ok-requires-2 : goal.slots_ok-requires-2
+slots_ok-requires-2 c = (search rules, (search slot_ends, (search rules, (search rules, search rules))))

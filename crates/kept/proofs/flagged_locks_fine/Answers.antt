@@ -1,0 +1,25 @@
+use borrow.Author.Rules.{rules}
+use mathlib.Core.Path.{◌≡◌}
+use mathlib.Core.Bool.{true}
+use native.Mathlib.Omega.{arith}
+use Prim.Native.Nat.{◌-◌, ◌≤◌}
+use Rattle.region.specs.Region.{view}
+use Rattle.model.specs.Basic.{below}
+use Rattle.model.specs.Fine.{fine_lock}
+use Rattle.kept.proofs.Laws.{placed, none_below, all_more, all_stop, all_end}
+use Rattle.kept.proofs.flagged_locks_fine.Goals as goal
+
+pub loop-n-init : goal.loop-n-init
+loop-n-init c = (omega arith, none_below _)
+
+pub lock_fine-ok-requires : goal.lock_fine-ok-requires
+lock_fine-ok-requires c = (search rules, (search rules, search placed))
+
+pub loop-n-preserved : goal.loop-n-preserved
+loop-n-preserved c = (omega arith, search all_more)
+
+pub returns-else-ok : goal.returns-else-ok
+returns-else-ok c = search all_stop
+
+pub returns : goal.returns
+returns c = search all_end

@@ -1,0 +1,15 @@
+use borrow.Author.Rules.{rules}
+use Rattle.layout.proofs.Laws.{layout_size, layout_head, head_passed, layout_tables}
+use Rattle.layout.proofs.is_laid.Goals as goal
+
+pub returns-then-region-ne-SIZE : goal.returns-then-region-ne-SIZE
+returns-then-region-ne-SIZE c = search layout_size
+
+pub returns-then-not-head_ok : goal.returns-then-not-head_ok
+returns-then-not-head_ok c = search layout_head
+
+pub tables_ok-requires : goal.tables_ok-requires
+tables_ok-requires c = (search rules, search head_passed)
+
+pub returns : goal.returns
+returns c = search layout_tables

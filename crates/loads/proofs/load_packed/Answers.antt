@@ -1,0 +1,36 @@
+use borrow.Author.Rules.{rules}
+use Rattle.calls.proofs.Replies.{good_laid, bad_region}
+use Rattle.calls.proofs.Known.{near}
+use Rattle.loads.proofs.Laws.{packed_busy, packed_far, packed_bad, packed_room, packed_done}
+use Rattle.loads.proofs.load_packed.Goals as goal
+
+pub returns-then-not-is_good : goal.returns-then-not-is_good
+returns-then-not-is_good c = search bad_region
+
+pub mode_number-requires : goal.mode_number-requires
+mode_number-requires c = search good_laid
+
+pub returns-then-mode_number-ne0 : goal.returns-then-mode_number-ne0
+returns-then-mode_number-ne0 c = search packed_busy
+
+pub known-requires : goal.known-requires
+known-requires c = search good_laid
+
+pub returns-in_default : goal.returns-in_default
+returns-in_default c = search packed_far
+
+pub name_at-requires : goal.name_at-requires
+name_at-requires c =
+    let named = c in
+    (search good_laid, near _ _ _ _ named.known.ensures named.n-1.given.1)
+
+pub returns-in_default-packed_of : goal.returns-in_default-packed_of
+returns-in_default-packed_of c = search packed_bad
+
+pub put_packed_at-requires : goal.put_packed_at-requires
+put_packed_at-requires c =
+    let named = c in
+    (search good_laid, (near _ _ _ _ named.known.ensures named.n-1.given.1, search packed_room))
+
+pub returns : goal.returns
+returns c = search packed_done

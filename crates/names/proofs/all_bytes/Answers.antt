@@ -1,0 +1,17 @@
+use borrow.Author.Rules.{rules}
+use lib.ListN.{length, drop}
+use mathlib.Core.Path.{◌≡◌, refl}
+use Prim.Native.Nat.{◌-◌}
+use Rattle.model.specs.Basic.{all}
+use Rattle.names.specs.Parts.{is_byte_of}
+use Rattle.names.proofs.Components.{all_stop, all_more, all_end}
+use Rattle.names.proofs.all_bytes.Goals as goal
+
+pub loop-i-preserved : goal.loop-i-preserved
+loop-i-preserved c = search all_more
+
+pub returns-else-ok : goal.returns-else-ok
+returns-else-ok c = search all_stop
+
+pub returns : goal.returns
+returns c = search all_end

@@ -1,0 +1,12 @@
+use Prim.Native.Nat.{◌-◌}
+use Rattle.region.specs.Region.{view}
+use Rattle.nests.proofs.Raising.{Raising}
+use borrow.Author.Rules.{rules}
+use Rattle.nests.proofs.Laws.{named, wanted, rows_start, rows_more, rows_end, inside}
+use Rattle.nests.proofs.flag_rows.Given as goal
+
+abbrev pub invariant-loop-i : goal.invariant-loop-i
+invariant-loop-i l = Raising (named (view l.region)) (wanted (view l.region) l.mode l.writing) l.rows l.i l.flags
+
+abbrev pub decreases-loop-i : goal.decreases-loop-i
+decreases-loop-i l = l.rows - l.i

@@ -1,0 +1,13 @@
+use Prim.Native.Nat.{◌-◌}
+use Rattle.region.specs.Region.{view}
+use Rattle.nests.proofs.Raising.{Raising}
+use Rattle.nests.specs.Under.{is_up}
+use borrow.Author.Rules.{rules}
+use Rattle.nests.proofs.Laws.{size_at, sizes_start, sizes_more, sizes_end, inside}
+use Rattle.nests.proofs.flag_sizes.Given as goal
+
+abbrev pub invariant-loop-m : goal.invariant-loop-m
+invariant-loop-m l = Raising (size_at (view l.region)) (is_up l.upper) l.count l.m l.sizes
+
+abbrev pub decreases-loop-m : goal.decreases-loop-m
+decreases-loop-m l = l.count - l.m

@@ -1,0 +1,13 @@
+use Prim.Native.Nat.{◌-◌}
+use Rattle.word.proofs.Tests.{Unmet}
+use Rattle.region.specs.Region.{view}
+use Rattle.nests.specs.Under.{under_one}
+use borrow.Author.Rules.{rules}
+use Rattle.nests.proofs.Laws.{under_start, under_more, under_here, under_end, inside}
+use Rattle.nests.proofs.is_under.Given as goal
+
+abbrev pub invariant-loop-m : goal.invariant-loop-m
+invariant-loop-m l = Unmet (under_one (view l.region) l.upper l.n) l.count l.m
+
+abbrev pub decreases-loop-m : goal.decreases-loop-m
+decreases-loop-m l = l.count - l.m

@@ -1,0 +1,22 @@
+use Prim.Native.Nat.{◌-◌}
+use Rattle.word.proofs.Tests.{Unmet}
+use Rattle.region.specs.Region.{view}
+use Rattle.nests.specs.Under.{flagged_under}
+use borrow.Author.Rules.{rules}
+use Rattle.nests.proofs.Laws.{none_start, none_more, none_here, none_end, inside}
+use Rattle.nests.proofs.none_sized.Goals as goal
+
+pub loop-n-init : goal.loop-n-init
+loop-n-init c = search none_start
+
+pub is_flagged_under-yes-requires : goal.is_flagged_under-yes-requires
+is_flagged_under-yes-requires c = (search rules, (search inside, search rules))
+
+pub returns-then-yes : goal.returns-then-yes
+returns-then-yes c = search none_here
+
+pub loop-n-preserved : goal.loop-n-preserved
+loop-n-preserved c = search none_more
+
+pub returns : goal.returns
+returns c = search none_end

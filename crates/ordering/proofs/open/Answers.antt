@@ -1,0 +1,22 @@
+use mathlib.Core.Path.{◌≡◌, refl}
+use Prim.Native.Nat.{◌≤◌}
+use native.Mathlib.Omega.{arith}
+use lib.ListN.{length, length-set}
+use borrow.Author.Rules.{rules}
+use Rattle.ordering.specs.Order.{Opened}
+use Rattle.ordering.proofs.Opens.{open_start, open_more, open_end}
+use Rattle.ordering.proofs.open.Goals as goal
+
+pub loop-i-init : goal.loop-i-init
+loop-i-init c = (search rules, omega arith, refl, search open_start)
+
+pub loop-i-preserved : goal.loop-i-preserved
+loop-i-preserved c =
+    let held = c in
+    (omega arith, omega arith, rw length-set held.loop-i.invariant.2, open_more _ _ (search rules) _ _ (omega arith) (omega arith) held.loop-i.invariant.3)
+
+pub shape_of-numbers : goal.shape_of-numbers
+shape_of-numbers c = c.loop-i.invariant.2
+
+pub returns : goal.returns
+returns c = search open_end

@@ -1,0 +1,36 @@
+use Prim.Native.Nat.{◌+◌, ◌-◌, ◌/◌}
+use native.Mathlib.Omega.{arith}
+use borrow.Author.Rules.{rules}
+use Rattle.region.specs.Region.{view}
+use Rattle.ordering.proofs.Places.{Narrowed, narrow_start, narrow_down, narrow_up, narrow_end}
+use Rattle.ordering.proofs.place.Goals as goal
+
+pub loop-low-init : goal.loop-low-init
+loop-low-init c = search narrow_start
+
+pub overflow_cast-numbers : goal.overflow_cast-numbers
+overflow_cast-numbers c =
+    let loop = c.loop-low in
+    omega (arith, c.shared_slice_known-in-loop-low-1.given (loop.low + (loop.high - loop.low) / 2))
+
+pub at-other-requires : goal.at-other-requires
+at-other-requires c =
+    let loop = c.loop-low in
+    omega (arith, c.shared_slice_known-in-loop-low-1.given (loop.low + (loop.high - loop.low) / 2))
+
+pub loop-low-preserved-then-first : goal.loop-low-preserved-then-first
+loop-low-preserved-then-first c =
+    let asked = c in
+    let second = asked in
+    let first = second in
+    let at = first in
+    let inside = at in
+    let start = inside in
+    narrow_down _ _ _ start.requires.1.0 start.requires.1.1 inside.loop-low.low inside.loop-low.high (search rules) _ _ _ _ _
+    inside.loop-low.invariant at.at.ensures first.bytes_of.ensures second.bytes-of2.ensures asked.is_before-first.ensures (search rules)
+
+pub loop-low-preserved : goal.loop-low-preserved
+loop-low-preserved c = search narrow_up
+
+pub returns : goal.returns
+returns c = search narrow_end

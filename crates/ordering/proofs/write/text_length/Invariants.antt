@@ -1,0 +1,14 @@
+use Prim.Native.Nat.{◌-◌, ◌≤◌}
+use native.Mathlib.Omega.{arith}
+use lib.ListN.{length}
+use borrow.Author.Rules.{rules}
+use Rattle.region.specs.Region.{view}
+use Rattle.ordering.proofs.Lines.{bytes_short, Measured, measure_start, measure_more, measure_end}
+use Rattle.ordering.proofs.write.text_length.Given as goal
+
+-- `text_length` meets its contract: the total is that of the first i. Assumes nothing.
+abbrev pub invariant-loop-i : goal.invariant-loop-i
+invariant-loop-i l = Measured (view l.region) l.numbers l.held l.i l.total
+
+abbrev pub decreases-loop-i : goal.decreases-loop-i
+decreases-loop-i l = l.held - l.i

@@ -1,0 +1,9 @@
+use Rattle.std.proofs.Common.{◌-◌, rules}
+use Rattle.outlook.proofs.Places.{place_in}
+use Rattle.outlook.proofs.plan.all_places.Given as goal
+
+abbrev pub invariant-loop-k : goal.invariant-loop-k
+invariant-loop-k l = Unit {0}
+
+abbrev pub decreases-loop-k : goal.decreases-loop-k
+decreases-loop-k l = l.places - l.k

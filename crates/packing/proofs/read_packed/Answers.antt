@@ -1,0 +1,46 @@
+use borrow.Author.Rules.{rules}
+use native.Mathlib.Omega.{arith}
+use Rattle.calls.proofs.Replies.{good_laid, bad_region}
+use Rattle.packing.proofs.Read.{read_busy, checked_lines, read_full, read_malformed, read_unpackable, read_loads, read_done}
+use Rattle.packing.proofs.read_packed.Goals as goal
+
+pub returns-then-not-is_good : goal.returns-then-not-is_good
+returns-then-not-is_good c = search bad_region
+
+pub mode_number-requires : goal.mode_number-requires
+mode_number-requires c = search good_laid
+
+pub returns-then-mode_number-ne0 : goal.returns-then-mode_number-ne0
+returns-then-mode_number-ne0 c = search read_busy
+
+pub has_room-requires : goal.has_room-requires
+has_room-requires c = (search good_laid, search checked_lines)
+
+pub returns-then-not-has_room : goal.returns-then-not-has_room
+returns-then-not-has_room c = search read_full
+
+pub forget_packed-requires : goal.forget_packed-requires
+forget_packed-requires c = search good_laid
+
+pub load_lines-requires : goal.load_lines-requires
+load_lines-requires c =
+    let room = c in
+    let checked = room in
+    let moded = checked in
+    let tested = moded in (
+      c.forget_packed.ensures.laid,
+      (
+        search checked_lines,
+        read_loads _ _ _ tested.is_good.ensures tested.if1.false _ moded.mode-number.ensures _ checked.check.ensures checked.if-mode_number-ne0.false
+            _ room.has_room.ensures room.if-not-has_room.false _ c.forget_packed.ensures,
+      ),
+    )
+
+pub returns-in-Malformed : goal.returns-in-Malformed
+returns-in-Malformed c = search read_malformed
+
+pub returns-in-Unpackable : goal.returns-in-Unpackable
+returns-in-Unpackable c = search read_unpackable
+
+pub returns-in-Whole : goal.returns-in-Whole
+returns-in-Whole c = search read_done

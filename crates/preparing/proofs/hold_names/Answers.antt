@@ -1,0 +1,19 @@
+use mathlib.Core.Path.{◌≡◌, refl}
+use Prim.Native.Nat.{◌-◌}
+use lib.ListN.{length}
+use borrow.Author.Rules.{rules}
+use Rattle.region.specs.Region.{view, Laid}
+use Rattle.preparing.proofs.Holding.{Held, held_start, held_row, held_name, turn_held, names_held_lem}
+use Rattle.preparing.proofs.hold_names.Goals as goal
+
+pub loop-i-init : goal.loop-i-init
+loop-i-init c = (search rules, refl, held_start _)
+
+pub hold_row-requires : goal.hold_row-requires
+hold_row-requires c = (search rules, (search held_row, search held_name))
+
+pub loop-i-preserved : goal.loop-i-preserved
+loop-i-preserved c = (search rules, search rules, search turn_held)
+
+pub returns : goal.returns
+returns c = search names_held_lem

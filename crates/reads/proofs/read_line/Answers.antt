@@ -1,0 +1,27 @@
+use borrow.Author.Rules.{rules}
+use Rattle.calls.proofs.Replies.{good_laid, bad_region}
+use Rattle.reads.proofs.Laws.{line_far, line_none, line_done}
+use Rattle.reads.proofs.read_line.Goals as goal
+
+pub returns-then-not-is_good : goal.returns-then-not-is_good
+returns-then-not-is_good c = search bad_region
+
+pub known-requires : goal.known-requires
+known-requires c = search good_laid
+
+pub returns-in_default : goal.returns-in_default
+returns-in_default c = search line_far
+
+pub find_line-requires : goal.find_line-requires
+find_line-requires c = search good_laid
+
+pub returns-in_default-find_line : goal.returns-in_default-find_line
+returns-in_default-find_line c = search line_none
+
+pub returns : goal.returns
+returns c =
+    let read = c in
+    let named = read in
+    let known = named in
+    let tested = known in
+    line_done _ _ tested.is_good.ensures tested.if1.false _ _ _ known.known.ensures _ named.n.given.1 _ _ read.find_line.ensures _ read.line-1.given.1 c.four.ensures

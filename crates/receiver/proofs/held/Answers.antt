@@ -1,0 +1,6 @@
+use Rattle.receiver.proofs.Laws.{held_part}
+use borrow.Author.Rules.{rules}
+use Rattle.receiver.proofs.held.Goals as goal
+
+pub returns : goal.returns
+returns c = search held_part

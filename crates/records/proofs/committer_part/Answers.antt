@@ -1,0 +1,6 @@
+use Rattle.records.proofs.Laws.{part_answered}
+use borrow.Author.Rules.{rules}
+use Rattle.records.proofs.committer_part.Goals as goal
+
+pub returns : goal.returns
+returns c = search part_answered

@@ -1,0 +1,6 @@
+use borrow.Author.Rules.{rules}
+use Rattle.region.proofs.ReadLaws.{lines_read}
+use Rattle.region.proofs.count_lines.Goals as goal
+
+pub returns : goal.returns
+returns c = search lines_read

@@ -1,0 +1,6 @@
+use borrow.Author.Rules.{rules}
+use Rattle.region.proofs.ReadLaws.{known_is}
+use Rattle.region.proofs.known.Goals as goal
+
+pub returns : goal.returns
+returns c = search known_is

@@ -1,0 +1,6 @@
+use borrow.Author.Rules.{rules}
+use Rattle.region.proofs.ReadLaws.{number_read}
+use Rattle.region.proofs.mode_number.Goals as goal
+
+pub returns : goal.returns
+returns c = search number_read

@@ -1,0 +1,6 @@
+use Rattle.region.proofs.Read.{name_of_row}
+use borrow.Author.Rules.{rules}
+use Rattle.region.proofs.row_name.Goals as goal
+
+pub returns : goal.returns
+returns c = search name_of_row

@@ -1,0 +1,11 @@
+use borrow.Author.Rules.{rules}
+use Prim.Native.Nat.{◌-◌}
+use Rattle.region.specs.Region.{view}
+use Rattle.rows.proofs.Gather.{Gathering, of_line, every, lines_start, lines_more, lines_end}
+use Rattle.rows.proofs.flag_lines.Given as goal
+
+abbrev pub invariant-loop-i : goal.invariant-loop-i
+invariant-loop-i l = Gathering of_line every (view l.region).lines l.i l.flags
+
+abbrev pub decreases-loop-i : goal.decreases-loop-i
+decreases-loop-i l = l.lines - l.i

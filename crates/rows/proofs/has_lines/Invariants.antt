@@ -1,0 +1,16 @@
+use borrow.Author.Rules.{rules}
+use mathlib.Core.Path.{◌≡◌}
+use Prim.Native.Nat.{◌-◌}
+use lib.ListN.{drop}
+use Rattle.region.specs.Region.{view}
+use Rattle.model.specs.Basic.{any}
+use Rattle.model.specs.Store.{is_of}
+use Rattle.model.specs.Due.{has_lines}
+use Rattle.rows.proofs.Laws.{any_more, any_here, any_end, lines_any}
+use Rattle.rows.proofs.has_lines.Given as goal
+
+abbrev pub invariant-loop-i : goal.invariant-loop-i
+invariant-loop-i l = any (is_of l.name) (drop l.i (view l.region).lines) ≡ has_lines (view l.region) l.name
+
+abbrev pub decreases-loop-i : goal.decreases-loop-i
+decreases-loop-i l = l.lines - l.i

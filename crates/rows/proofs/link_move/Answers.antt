@@ -1,0 +1,6 @@
+use borrow.Author.Rules.{rules}
+use Rattle.rows.proofs.Lines.{link_clones}
+use Rattle.rows.proofs.link_move.Goals as goal
+
+pub returns-in-Id : goal.returns-in-Id
+returns-in-Id c = search link_clones

@@ -1,0 +1,6 @@
+use Rattle.rules.proofs.Laws.{option_present}
+use borrow.Author.Rules.{rules}
+use Rattle.rules.proofs.option_ok.Goals as goal
+
+pub returns : goal.returns
+returns c = search option_present

@@ -1,0 +1,6 @@
+use Rattle.scribe.proofs.Written.{committer_put}
+use borrow.Author.Rules.{rules}
+use Rattle.scribe.proofs.put_committer.Goals as goal
+
+pub returns : goal.returns
+returns c = search committer_put

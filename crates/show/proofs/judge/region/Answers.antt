@@ -1,0 +1,6 @@
+use Rattle.std.proofs.Common.{rules}
+use Rattle.show.proofs.Laws.{is_laid}
+use Rattle.show.proofs.judge.region.Goals as goal
+
+pub laid-requires : goal.laid-requires
+laid-requires c = search is_laid

@@ -1,0 +1,6 @@
+use Rattle.slots.proofs.Laws.{line_in_lem}
+use borrow.Author.Rules.{rules}
+use Rattle.slots.proofs.get_line.Goals as goal
+
+pub returns : goal.returns
+returns c = search line_in_lem

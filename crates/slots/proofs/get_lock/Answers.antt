@@ -1,0 +1,6 @@
+use Rattle.slots.proofs.Laws.{lock_in_lem}
+use borrow.Author.Rules.{rules}
+use Rattle.slots.proofs.get_lock.Goals as goal
+
+pub returns : goal.returns
+returns c = search lock_in_lem

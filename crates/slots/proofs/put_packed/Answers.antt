@@ -1,0 +1,9 @@
+use borrow.Author.Rules.{rules}
+use Rattle.slots.proofs.Laws.{put_packed_none, put_packed_object}
+use Rattle.slots.proofs.put_packed.Goals as goal
+
+pub returns-in-None : goal.returns-in-None
+returns-in-None c = search put_packed_none
+
+pub returns-in-Object : goal.returns-in-Object
+returns-in-Object c = search put_packed_object

@@ -1,0 +1,12 @@
+use Prim.Native.Nat.{◌-◌}
+use native.Mathlib.Omega.{arith}
+use borrow.Author.Rules.{rules}
+use Rattle.slots.proofs.Laws.{Far, far_start, far_room, far_more, width_fits, far_end}
+use Rattle.slots.proofs.put_row.Given as goal
+
+-- `put_row` meets its contract: the numbers before place i stand before byte `at`. Assumes nothing.
+abbrev pub invariant-loop-i : goal.invariant-loop-i
+invariant-loop-i l = Far l.initial.slot l.p l.i l.at l.slot
+
+abbrev pub decreases-loop-i : goal.decreases-loop-i
+decreases-loop-i l = 13 - l.i

@@ -1,0 +1,23 @@
+use borrow.Author.Rules.{rules}
+use Rattle.slots.proofs.Laws.{row_is}
+use Rattle.slots.proofs.row_numbers.Goals as goal
+
+pub returns : goal.returns
+returns c =
+    let d = c in
+    let g = d in
+    row_is g.args.row _ _ _ _ _ _ _ _ _ _ _ _ _ _
+    g.log.ensures
+    d.expected-expected.ensures
+    d.previous_value-was.ensures
+    d.new_value-new.ensures
+    d.byte.ensures
+    c.byte-2.ensures
+    c.flag_of.ensures
+    c.byte-3.ensures
+    c.byte-4.ensures
+    c.number.ensures
+    c.byte-5.ensures
+    c.number-2.ensures
+    c.parent_flag.ensures
+    c.parent_place.ensures

@@ -1,0 +1,18 @@
+use Prim.Native.Nat.{◌-◌}
+use native.Mathlib.Omega.{arith}
+use borrow.Author.Rules.{rules}
+use Rattle.edits.specs.Edits.{edits_in}
+use Rattle.splits.proofs.Edits.{Added, added_start, added_more, added_end, fits_edit}
+use Rattle.splits.proofs.add_edits.Goals as goal
+
+pub loop-i-init : goal.loop-i-init
+loop-i-init c = search added_start
+
+pub add_row-requires : goal.add_row-requires
+add_row-requires c = (search rules, (search rules, (omega arith, search fits_edit)))
+
+pub loop-i-preserved : goal.loop-i-preserved
+loop-i-preserved c = search added_more
+
+pub returns : goal.returns
+returns c = search added_end

@@ -1,0 +1,6 @@
+use borrow.Author.Rules.{rules}
+use Rattle.splits.proofs.Laws.{child_is}
+use Rattle.splits.proofs.child.Goals as goal
+
+pub returns : goal.returns
+returns c = search child_is

@@ -1,0 +1,14 @@
+use mathlib.Core.Path.{◌≡◌}
+use Prim.Native.Nat.{◌-◌}
+use borrow.Author.Rules.{rules}
+use Rattle.model.specs.Store.{rows_in}
+use Rattle.region.specs.Region.{view}
+use Rattle.splits.specs.Round.{leads_on}
+use Rattle.splits.proofs.Laws.{leads_none, leads_here, leads_later}
+use Rattle.splits.proofs.leads_on.Given as goal
+
+abbrev pub invariant-loop-i : goal.invariant-loop-i
+invariant-loop-i l = leads_on (view l.region) l.i (rows_in (view l.region).prepared) ≡ leads_on (view l.region) l.first (rows_in (view l.region).prepared)
+
+abbrev pub decreases-loop-i : goal.decreases-loop-i
+decreases-loop-i l = l.end - l.i

@@ -1,0 +1,19 @@
+use mathlib.Core.Path.{◌≡◌}
+use Prim.Native.Nat.{◌≤◌}
+use lib.ListN.{length}
+use borrow.Author.Rules.{rules}
+use Rattle.word.specs.Flags.{Flags}
+use Rattle.model.specs.Store.{rows_in}
+use Rattle.region.specs.Region.{view}
+use Rattle.splits.specs.Twice.{behind, least_from}
+use Rattle.splits.proofs.Twice.{behind_none, flags_of, flags_at, least_start, least_more, least_same, least_end}
+use Rattle.splits.proofs.least_repeated.Given as goal
+
+abbrev pub invariant-loop-i : goal.invariant-loop-i
+invariant-loop-i l =
+    (l.least ≡ least_from (view l.region) (rows_in (view l.region).prepared) l.i)
+    × (l.i ≤ length (rows_in (view l.region).prepared))
+    × Flags (behind (rows_in (view l.region).prepared) l.i) l.flags
+
+abbrev pub decreases-loop-i : goal.decreases-loop-i
+decreases-loop-i l = l.i

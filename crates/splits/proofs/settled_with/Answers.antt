@@ -1,0 +1,6 @@
+use borrow.Author.Rules.{rules}
+use Rattle.splits.proofs.Laws.{settled_is}
+use Rattle.splits.proofs.settled_with.Goals as goal
+
+pub returns : goal.returns
+returns c = search settled_is

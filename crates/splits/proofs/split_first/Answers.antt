@@ -1,0 +1,20 @@
+use Prim.Native.Nat.{◌-◌}
+use native.Mathlib.Omega.{arith}
+use borrow.Author.Rules.{rules}
+use Rattle.edits.specs.Edits.{edits_in}
+use Rattle.splits.proofs.Edits.{first_start, first_more, first_end}
+use Rattle.splits.proofs.Model.{asked}
+use Rattle.splits.proofs.Table.{Far}
+use Rattle.splits.proofs.split_first.Goals as goal
+
+pub loop-i-init : goal.loop-i-init
+loop-i-init c = search first_start
+
+pub split_row-requires : goal.split_row-requires
+split_row-requires c = (search rules, (search rules, (omega arith, omega arith)))
+
+pub loop-i-preserved : goal.loop-i-preserved
+loop-i-preserved c = search first_more
+
+pub returns : goal.returns
+returns c = search first_end

@@ -1,0 +1,22 @@
+use borrow.Author.Rules.{rules}
+use mathlib.Core.Path.{◌≡◌}
+use Prim.Native.Nat.{◌-◌}
+use lib.ListN.{drop}
+use Rattle.region.specs.Region.{view}
+use Rattle.model.specs.Basic.{select}
+use Rattle.model.specs.Store.{is_of, lines_of}
+use Rattle.steps.specs.Steps.{line_among}
+use Rattle.steps.proofs.Laws.{line_start, line_here, line_more, line_end}
+use Rattle.steps.proofs.find_line.Goals as goal
+
+pub loop-i-init : goal.loop-i-init
+loop-i-init c = line_start _ _ _
+
+pub returns-then-here : goal.returns-then-here
+returns-then-here c = search line_here
+
+pub loop-i-preserved : goal.loop-i-preserved
+loop-i-preserved c = search line_more
+
+pub returns : goal.returns
+returns c = search line_end

@@ -1,0 +1,16 @@
+use borrow.Author.Rules.{rules}
+use mathlib.Core.Path.{◌≡◌}
+use Prim.Native.Nat.{◌-◌}
+use lib.ListN.{drop}
+use Rattle.region.specs.Region.{view}
+use Rattle.model.specs.Basic.{select}
+use Rattle.model.specs.Store.{is_of, lines_of}
+use Rattle.steps.specs.Steps.{line_among}
+use Rattle.steps.proofs.Laws.{line_start, line_here, line_more, line_end}
+use Rattle.steps.proofs.find_line.Given as goal
+
+abbrev pub invariant-loop-i : goal.invariant-loop-i
+invariant-loop-i l = line_among l.left (select (is_of l.name) (drop l.i (view l.region).lines)) ≡ line_among l.place (lines_of (view l.region) l.name)
+
+abbrev pub decreases-loop-i : goal.decreases-loop-i
+decreases-loop-i l = l.lines - l.i

@@ -1,0 +1,20 @@
+use mathlib.Core.Path.{◌≡◌, refl}
+use Prim.Native.Nat.{◌-◌}
+use lib.ListN.{drop}
+use borrow.Author.Rules.{rules}
+use Rattle.model.specs.Load.{number_from}
+use Rattle.region.specs.Region.{view}
+use Rattle.steps.proofs.Laws.{at_below, number_here, number_more, number_end}
+use Rattle.steps.proofs.find_name.Goals as goal
+
+pub name_at-requires : goal.name_at-requires
+name_at-requires c = (search rules, search at_below)
+
+pub returns-then-same : goal.returns-then-same
+returns-then-same c = search number_here
+
+pub loop-n-preserved : goal.loop-n-preserved
+loop-n-preserved c = search number_more
+
+pub returns : goal.returns
+returns c = search number_end

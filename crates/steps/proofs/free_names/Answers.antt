@@ -1,0 +1,30 @@
+use mathlib.Core.Path.{◌≡◌, refl}
+use Prim.Native.Nat.{◌-◌, ◌≤◌}
+use native.Mathlib.Omega.{arith}
+use lib.ListN.{length}
+use borrow.Author.Rules.{rules}
+use Rattle.region.specs.Region.{view, Became}
+use Rattle.steps.specs.Steps.{free_names}
+use Rattle.steps.proofs.Laws.{freed_none, freed_more, freed_below, freed_end}
+use Rattle.steps.proofs.free_names.Goals as goal
+
+pub loop-n-init : goal.loop-n-init
+loop-n-init c = (omega arith, refl, search freed_none)
+
+pub lock_at-requires : goal.lock_at-requires
+lock_at-requires c = (search rules, search freed_below)
+
+pub put_lock_at-requires : goal.put_lock_at-requires
+put_lock_at-requires c = (search rules, search freed_below)
+
+pub loop-n-preserved : goal.loop-n-preserved
+loop-n-preserved c =
+    let put = c in
+    let freed = put in
+    let read = freed in
+    let at = read in
+    let inv = at.loop-n.invariant in
+    (omega arith, search rules, freed_more _ _ _ _ _ _ _ inv.2 at.at.ensures read.lock_at.ensures freed.freed-lock.ensures put.put_lock_at.ensures)
+
+pub returns : goal.returns
+returns c = search freed_end

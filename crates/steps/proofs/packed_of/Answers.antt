@@ -1,0 +1,21 @@
+use borrow.Author.Rules.{rules}
+use Rattle.steps.proofs.Laws.{packed_beside_none, packed_none, packed_null, packed_unpackable, packed_object, packed_other}
+use Rattle.steps.proofs.packed_of.Goals as goal
+
+pub returns-then-number-ne0 : goal.returns-then-number-ne0
+returns-then-number-ne0 c = search packed_beside_none
+
+pub returns-in_default-new : goal.returns-in_default-new
+returns-in_default-new c = search packed_null
+
+pub returns-then-not-packable : goal.returns-then-not-packable
+returns-then-not-packable c = search packed_unpackable
+
+pub returns-else-number-ne0 : goal.returns-else-number-ne0
+returns-else-number-ne0 c = search packed_none
+
+pub returns-else-not-packable : goal.returns-else-not-packable
+returns-else-not-packable c = search packed_object
+
+pub returns-in_default : goal.returns-in_default
+returns-in_default c = packed_other _ _ c.args.number c.in_default.rest.0.1 c.in_default.rest.1

@@ -1,0 +1,6 @@
+use borrow.Author.Rules.{rules}
+use Rattle.steps.proofs.Laws.{released_is}
+use Rattle.steps.proofs.release.Goals as goal
+
+pub returns : goal.returns
+returns c = search released_is

@@ -1,0 +1,18 @@
+use Prim.Native.Nat.{◌≤◌, ◌<◌}
+use mathlib.Core.Path.{◌≡◌, refl}
+use native.Mathlib.Omega.{arith}
+use native.Mathlib.Nat.{mod-lt}
+use lib.Dec.{lit<}
+use lib.ListN.{length, drop, length-set}
+use lib.Seq.{drop-length}
+use mathlib.Core.List.{[]}
+use Rattle.model.specs.PackedText.{digits_on}
+use Rattle.texts.proofs.Digits.{put_turn}
+use Rattle.texts.proofs.put_digits.Given as goal
+
+-- `put_digits` meets its contract: what is left of the number, put before the digits that are written, makes the whole form. Assumes nothing.
+abbrev pub invariant-loop-i : goal.invariant-loop-i
+invariant-loop-i l = (l.i ≤ length l.s) × (length l.s ≡ length l.initial.s) × (digits_on l.i l.left (drop l.i l.s) ≡ digits_on (length l.initial.s) l.x [])
+
+abbrev pub decreases-loop-i : goal.decreases-loop-i
+decreases-loop-i l = l.i

@@ -1,0 +1,18 @@
+use borrow.Author.Rules.{rules}
+use Rattle.turns.proofs.Judges.{update_absent, update_not, update_match_absent, update_match, update_may}
+use Rattle.turns.proofs.judge_update.Goals as goal
+
+pub returns-in_default : goal.returns-in_default
+returns-in_default c = search update_absent
+
+pub returns-in_default-existing-2 : goal.returns-in_default-existing-2
+returns-in_default-existing-2 c = search update_match_absent
+
+pub returns-in-Present-existing : goal.returns-in-Present-existing
+returns-in-Present-existing c = search update_not
+
+pub returns-in-Present-existing-2 : goal.returns-in-Present-existing-2
+returns-in-Present-existing-2 c = search update_match
+
+pub returns-in-ExistingMustMatch : goal.returns-in-ExistingMustMatch
+returns-in-ExistingMustMatch c = search update_may

@@ -1,0 +1,6 @@
+use borrow.Author.Rules.{rules}
+use Rattle.turns.proofs.Judges.{observed_is}
+use Rattle.turns.proofs.observe.Goals as goal
+
+pub returns : goal.returns
+returns c = search observed_is

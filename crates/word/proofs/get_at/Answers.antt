@@ -1,0 +1,6 @@
+use borrow.Author.Rules.{rules}
+use Rattle.word.proofs.Parts.{lent}
+use Rattle.word.proofs.get_at.Goals as goal
+
+pub returns : goal.returns
+returns c = search lent

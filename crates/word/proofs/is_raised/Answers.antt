@@ -1,0 +1,6 @@
+use borrow.Author.Rules.{rules}
+use Rattle.word.proofs.Flags.{no_flag}
+use Rattle.word.proofs.is_raised.Goals as goal
+
+pub returns : goal.returns
+returns c = search no_flag

@@ -1,0 +1,6 @@
+use borrow.Author.Rules.{rules}
+use Rattle.word.proofs.Parts.{put_at_is}
+use Rattle.word.proofs.put_at.Goals as goal
+
+pub returns : goal.returns
+returns c = search put_at_is

@@ -1,0 +1,6 @@
+use borrow.Author.Rules.{rules}
+use Rattle.writers.proofs.LineLaws.{add_line_is}
+use Rattle.writers.proofs.add_line.Goals as goal
+
+pub returns : goal.returns
+returns c = search add_line_is

@@ -1,0 +1,6 @@
+use borrow.Author.Rules.{rules}
+use Rattle.writers.proofs.RowLaws.{begin_is}
+use Rattle.writers.proofs.begin_rows.Goals as goal
+
+pub returns : goal.returns
+returns c = search begin_is

@@ -1,0 +1,6 @@
+use borrow.Author.Rules.{rules}
+use Rattle.writers.proofs.PutLaws.{forget_packed_is}
+use Rattle.writers.proofs.forget_packed.Goals as goal
+
+pub returns : goal.returns
+returns c = search forget_packed_is

@@ -1,0 +1,6 @@
+use borrow.Author.Rules.{rules}
+use Rattle.writers.proofs.PutLaws.{empty_is}
+use Rattle.writers.proofs.make_empty.Goals as goal
+
+pub returns : goal.returns
+returns c = search empty_is

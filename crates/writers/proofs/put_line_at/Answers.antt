@@ -1,0 +1,6 @@
+use borrow.Author.Rules.{rules}
+use Rattle.writers.proofs.LineLaws.{put_line_is}
+use Rattle.writers.proofs.put_line_at.Goals as goal
+
+pub returns : goal.returns
+returns c = search put_line_is

@@ -1,0 +1,6 @@
+use borrow.Author.Rules.{rules}
+use Rattle.writers.proofs.PutLaws.{put_lock_is}
+use Rattle.writers.proofs.put_lock_at.Goals as goal
+
+pub returns : goal.returns
+returns c = search put_lock_is

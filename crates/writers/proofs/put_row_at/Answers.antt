@@ -1,0 +1,6 @@
+use borrow.Author.Rules.{rules}
+use Rattle.writers.proofs.RowLaws.{put_row_is}
+use Rattle.writers.proofs.put_row_at.Goals as goal
+
+pub returns : goal.returns
+returns c = search put_row_is
