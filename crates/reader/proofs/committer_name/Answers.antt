@@ -5,13 +5,6 @@ use Rattle.reader.proofs.Found.{part_unknown, part_malformed, part_none, part_ro
 use borrow.Author.Rules.{rules}
 use Rattle.reader.proofs.committer_name.Goals as goal
 
-pub overflow_add-end : goal.overflow_add-end
-overflow_add-end c =
-    let s = c in
-    let f = c.finding-1.given.0.0 in
-    let h : f.at + f.length ≤ length s.args.bytes.now = search part_room in
-    record { fits = omega arith }
-
 pub slice_bounds-result-end-in-Found : goal.slice_bounds-result-end-in-Found
 slice_bounds-result-end-in-Found c = search part_room
 

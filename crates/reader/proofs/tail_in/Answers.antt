@@ -8,12 +8,6 @@ use Rattle.reader.proofs.tail_in.Goals as goal
 pub returns-in_default : goal.returns-in_default
 returns-in_default c = search tail_none
 
-pub overflow_add-behind : goal.overflow_add-behind
-overflow_add-behind c =
-    let s = c in
-    let h : 3 + c.length-1.given.0.0 ≤ length s.args.part.now = search content_room in
-    record { fits = omega arith }
-
 pub slice_bounds-count_committers-end : goal.slice_bounds-count_committers-end
 slice_bounds-count_committers-end c = search content_room
 

@@ -46,27 +46,6 @@ pub slice_bounds-put_number-start : goal.slice_bounds-put_number-start
 slice_bounds-put_number-start c =
     let r = long-at c in omega arith
 
-pub put_number-requires : goal.put_number-requires
-put_number-requires c =
-    let listed = c in
-    let fronted = listed in
-    let at = fronted in
-    let args = at.args in
-    let size = content_length args.numbers.now args.names.now in
-    site_part
-    args.version
-    args.log
-    args.mode
-    args.site
-    args.numbers.now
-    args.lengths.now
-    args.names.now
-    args.slot.now
-    at.requires
-    (put 14 (14 + size - 14) (put 0 14 args.slot.now fronted.put_front.new.0) listed.put_committers.new.0)
-    c.if-version-eq-VERSION_2.true
-    (listed.slot-2-1.given.1 ∙ fronted.slot.given.1)
-
 pub returns-then-version-eq-VERSION_2 : goal.returns-then-version-eq-VERSION_2
 returns-then-version-eq-VERSION_2 c = search record_site
 

@@ -19,6 +19,3 @@ returns-in-Id c = search target_object
 
 pub returns-else-number-ge65536 : goal.returns-else-number-ge65536
 returns-else-number-ge65536 c = search target_link
-
-pub returns-in_default : goal.returns-in_default
-returns-in_default c = target_other _ c.args.number c.in_default.rest.0.0.1 c.in_default.rest.0.1 c.in_default.rest.1

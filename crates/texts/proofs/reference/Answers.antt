@@ -20,8 +20,5 @@ returns-then-line-ne-SPACE c = search ref_no_space
 pub returns-then-not-is_name : goal.returns-then-not-is_name
 returns-then-not-is_name c = search ref_no_name
 
-pub number-requires : goal.number-requires
-number-requires c = ref_digits c.args.line.now _ c.are_digits.ensures c.if-not-are_digits.false
-
 pub returns : goal.returns
 returns c = search ref_done

@@ -10,12 +10,3 @@ loop-ending-init c = at_start c.args.text.now
 
 pub next_line-next-requires : goal.next_line-next-requires
 next_line-next-requires c = c.loop-ending.invariant
-
-pub returns-in-Stopped : goal.returns-in-Stopped
-returns-in-Stopped c = checked _ _ _ _ c.loop-ending.invariant c.next_line-next.ensures c.next-1.given.1
-
-pub loop-ending-smaller : goal.loop-ending-smaller
-loop-ending-smaller c = goes_nearer _ _ _ _ c.next_line-next.ensures c.next-in-Going-1.given.1
-
-pub loop-ending-preserved : goal.loop-ending-preserved
-loop-ending-preserved c = goes_on _ _ _ _ c.next_line-next.ensures c.next-in-Going-1.given.1

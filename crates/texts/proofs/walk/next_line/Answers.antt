@@ -9,10 +9,5 @@ returns-then-length-rest c = search stops
 pub slice_bounds-line_said-end : goal.slice_bounds-line_said-end
 slice_bounds-line_said-end c = search line_part
 
-pub past-requires : goal.past-requires
-past-requires c =
-    let start = c in
-    roomy start.args.text.now start.args.place start.requires _ c.up_to_lem.ensures (omega arith)
-
 pub returns : goal.returns
 returns c = search moves
