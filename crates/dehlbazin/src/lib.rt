@@ -15,8 +15,7 @@ ghost use Rattle.receiving.specs.Fragments.ReceiverCall.{fresh_receiver, take_fr
 use answers::Answer;
 
 // Makes an empty store, whatever the region held.
-#[unsafe(no_mangle)]
-pub extern "C" fn dehlbazin_start(region: &mut [u8], setting: u64, answer: &mut [u8]) -> u32
+pub fn dehlbazin_start(region: &mut [u8], setting: u64, answer: &mut [u8]) -> u32
     ensures { Did (call (start setting) region.old answer.old) result answer.new (region.new ∷ []) }
 {
     if answer.len() != Answer::SIZE {
@@ -27,8 +26,7 @@ pub extern "C" fn dehlbazin_start(region: &mut [u8], setting: u64, answer: &mut 
 }
 
 // The same with the log setting of a settings record, of version 1 or 2.
-#[unsafe(no_mangle)]
-pub extern "C" fn dehlbazin_start_with_settings(
+pub fn dehlbazin_start_with_settings(
     region: &mut [u8],
     bytes: &[u8],
     answer: &mut [u8],
@@ -43,8 +41,7 @@ pub extern "C" fn dehlbazin_start_with_settings(
 }
 
 // Adds a name, or finds it: its number.
-#[unsafe(no_mangle)]
-pub extern "C" fn dehlbazin_add_name(region: &mut [u8], name: &[u8], answer: &mut [u8]) -> u32
+pub fn dehlbazin_add_name(region: &mut [u8], name: &[u8], answer: &mut [u8]) -> u32
     ensures { Did (call (add_name name.now) region.old answer.old) result answer.new (region.new ∷ []) }
 {
     if answer.len() != Answer::SIZE {
@@ -55,8 +52,7 @@ pub extern "C" fn dehlbazin_add_name(region: &mut [u8], name: &[u8], answer: &mu
 }
 
 // Where the bytes of a name stand in the region: offset and length.
-#[unsafe(no_mangle)]
-pub extern "C" fn dehlbazin_name_bytes(region: &[u8], name: u64, answer: &mut [u8]) -> u32
+pub fn dehlbazin_name_bytes(region: &[u8], name: u64, answer: &mut [u8]) -> u32
     ensures { Did (call (name_bytes name) region.now answer.old) result answer.new (region.now ∷ []) }
 {
     if answer.len() != Answer::SIZE {
@@ -67,8 +63,7 @@ pub extern "C" fn dehlbazin_name_bytes(region: &[u8], name: u64, answer: &mut [u
 }
 
 // Sets the loose value of a name.
-#[unsafe(no_mangle)]
-pub extern "C" fn dehlbazin_load_loose(
+pub fn dehlbazin_load_loose(
     region: &mut [u8],
     name: u64,
     kind: u64,
@@ -85,8 +80,7 @@ pub extern "C" fn dehlbazin_load_loose(
 }
 
 // Sets the packed value of a name.
-#[unsafe(no_mangle)]
-pub extern "C" fn dehlbazin_load_packed(
+pub fn dehlbazin_load_packed(
     region: &mut [u8],
     name: u64,
     kind: u64,
@@ -103,8 +97,7 @@ pub extern "C" fn dehlbazin_load_packed(
 }
 
 // Places a foreign lock on a name, kind 0, or on the packed table, kind 1, beside which the number is not looked at.
-#[unsafe(no_mangle)]
-pub extern "C" fn dehlbazin_place_lock(
+pub fn dehlbazin_place_lock(
     region: &mut [u8],
     kind: u64,
     number: u64,
@@ -120,8 +113,7 @@ pub extern "C" fn dehlbazin_place_lock(
 }
 
 // Lifts it.
-#[unsafe(no_mangle)]
-pub extern "C" fn dehlbazin_lift_lock(
+pub fn dehlbazin_lift_lock(
     region: &mut [u8],
     kind: u64,
     number: u64,
@@ -137,8 +129,7 @@ pub extern "C" fn dehlbazin_lift_lock(
 }
 
 // Judges a list of edits and takes their locks: how many rows the transaction has.
-#[unsafe(no_mangle)]
-pub extern "C" fn dehlbazin_prepare(
+pub fn dehlbazin_prepare(
     region: &mut [u8],
     list: &[u8],
     mode: u64,
@@ -154,8 +145,7 @@ pub extern "C" fn dehlbazin_prepare(
 }
 
 // Makes the writes of the prepared transaction in their order, as many as the allowance lets it: how many it made.
-#[unsafe(no_mangle)]
-pub extern "C" fn dehlbazin_commit(
+pub fn dehlbazin_commit(
     region: &mut [u8],
     committer: u64,
     allowance: u64,
@@ -171,8 +161,7 @@ pub extern "C" fn dehlbazin_commit(
 }
 
 // Forgets the prepared transaction and frees its locks: how many rows it had.
-#[unsafe(no_mangle)]
-pub extern "C" fn dehlbazin_rollback(region: &mut [u8], answer: &mut [u8]) -> u32
+pub fn dehlbazin_rollback(region: &mut [u8], answer: &mut [u8]) -> u32
     ensures { Did (call rollback region.old answer.old) result answer.new (region.new ∷ []) }
 {
     if answer.len() != Answer::SIZE {
@@ -183,8 +172,7 @@ pub extern "C" fn dehlbazin_rollback(region: &mut [u8], answer: &mut [u8]) -> u3
 }
 
 // What a name reads, and where that is found.
-#[unsafe(no_mangle)]
-pub extern "C" fn dehlbazin_read_name(region: &[u8], name: u64, answer: &mut [u8]) -> u32
+pub fn dehlbazin_read_name(region: &[u8], name: u64, answer: &mut [u8]) -> u32
     ensures { Did (call (read_name name) region.now answer.old) result answer.new (region.now ∷ []) }
 {
     if answer.len() != Answer::SIZE {
@@ -195,8 +183,7 @@ pub extern "C" fn dehlbazin_read_name(region: &[u8], name: u64, answer: &mut [u8
 }
 
 // A line of a name's log, by its place among them.
-#[unsafe(no_mangle)]
-pub extern "C" fn dehlbazin_read_line(
+pub fn dehlbazin_read_line(
     region: &[u8],
     name: u64,
     place: u64,
@@ -212,8 +199,7 @@ pub extern "C" fn dehlbazin_read_line(
 }
 
 // A row of the prepared transaction, and where its existing value was found.
-#[unsafe(no_mangle)]
-pub extern "C" fn dehlbazin_read_row(region: &[u8], place: u64, answer: &mut [u8]) -> u32
+pub fn dehlbazin_read_row(region: &[u8], place: u64, answer: &mut [u8]) -> u32
     ensures { Did (call (read_row place) region.now answer.old) result answer.new (region.now ∷ []) }
 {
     if answer.len() != Answer::SIZE {
@@ -226,8 +212,7 @@ pub extern "C" fn dehlbazin_read_row(region: &[u8], place: u64, answer: &mut [u8
 // ---- the packed table as text
 
 // Writes it at the beginning of a buffer: how long it is.
-#[unsafe(no_mangle)]
-pub extern "C" fn dehlbazin_write_packed(region: &[u8], buffer: &mut [u8], answer: &mut [u8]) -> u32
+pub fn dehlbazin_write_packed(region: &[u8], buffer: &mut [u8], answer: &mut [u8]) -> u32
     ensures { Did (write_call region.now buffer.old answer.old) result answer.new (region.now ∷ buffer.new ∷ []) }
 {
     if answer.len() != Answer::SIZE {
@@ -238,8 +223,7 @@ pub extern "C" fn dehlbazin_write_packed(region: &[u8], buffer: &mut [u8], answe
 }
 
 // Puts what a text says in the place of all packed values: how many refs it has.
-#[unsafe(no_mangle)]
-pub extern "C" fn dehlbazin_read_packed(region: &mut [u8], text: &[u8], answer: &mut [u8]) -> u32
+pub fn dehlbazin_read_packed(region: &mut [u8], text: &[u8], answer: &mut [u8]) -> u32
     ensures { Did (call (read_packed text.now) region.old answer.old) result answer.new (region.new ∷ []) }
 {
     if answer.len() != Answer::SIZE {
@@ -252,8 +236,7 @@ pub extern "C" fn dehlbazin_read_packed(region: &mut [u8], text: &[u8], answer: 
 // ---- settings records, with no region
 
 // What a settings record says, to a reader that knows versions up to the one given: log setting, usual mode, site, how many committers.
-#[unsafe(no_mangle)]
-pub extern "C" fn dehlbazin_read_settings(bytes: &[u8], known: u64, answer: &mut [u8]) -> u32
+pub fn dehlbazin_read_settings(bytes: &[u8], known: u64, answer: &mut [u8]) -> u32
     ensures { Did (record_call (read_settings known) bytes.now answer.old) result answer.new (bytes.now ∷ []) }
 {
     if answer.len() != Answer::SIZE {
@@ -264,8 +247,7 @@ pub extern "C" fn dehlbazin_read_settings(bytes: &[u8], known: u64, answer: &mut
 }
 
 // A committer of it by place: its number, and where its name stands in the record.
-#[unsafe(no_mangle)]
-pub extern "C" fn dehlbazin_read_committer(
+pub fn dehlbazin_read_committer(
     bytes: &[u8],
     known: u64,
     place: u64,
@@ -281,8 +263,7 @@ pub extern "C" fn dehlbazin_read_committer(
 }
 
 // Writes a settings record at the beginning of a buffer: its length.
-#[unsafe(no_mangle)]
-pub extern "C" fn dehlbazin_write_settings(
+pub fn dehlbazin_write_settings(
     buffer: &mut [u8],
     version: u64,
     log: u64,
@@ -307,8 +288,7 @@ pub extern "C" fn dehlbazin_write_settings(
 // ---- a list of edits in fragments: a receiver collects them, with no region, and closing gives them to prepare
 
 // Makes a receiver that holds nothing, whatever its bytes were.
-#[unsafe(no_mangle)]
-pub extern "C" fn dehlbazin_fresh_receiver(receiver: &mut [u8], answer: &mut [u8]) -> u32
+pub fn dehlbazin_fresh_receiver(receiver: &mut [u8], answer: &mut [u8]) -> u32
     ensures { Did (receiver_call fresh_receiver receiver.old answer.old) result answer.new (receiver.new ∷ []) }
 {
     if answer.len() != Answer::SIZE {
@@ -319,8 +299,7 @@ pub extern "C" fn dehlbazin_fresh_receiver(receiver: &mut [u8], answer: &mut [u8
 }
 
 // Takes a fragment of any length: how many bytes are held now.
-#[unsafe(no_mangle)]
-pub extern "C" fn dehlbazin_take_fragment(
+pub fn dehlbazin_take_fragment(
     receiver: &mut [u8],
     fragment: &[u8],
     answer: &mut [u8],
@@ -335,8 +314,7 @@ pub extern "C" fn dehlbazin_take_fragment(
 }
 
 // Prepares what a receiver holds, as prepare does, and leaves a fresh one.
-#[unsafe(no_mangle)]
-pub extern "C" fn dehlbazin_close_receiver(
+pub fn dehlbazin_close_receiver(
     region: &mut [u8],
     receiver: &mut [u8],
     mode: u64,
