@@ -26,11 +26,7 @@ pub fn dehlbazin_start(region: &mut [u8], setting: u64, answer: &mut [u8]) -> u3
 }
 
 // The same with the log setting of a settings record, of version 1 or 2.
-pub fn dehlbazin_start_with_settings(
-    region: &mut [u8],
-    bytes: &[u8],
-    answer: &mut [u8],
-) -> u32
+pub fn dehlbazin_start_with_settings(region: &mut [u8], bytes: &[u8], answer: &mut [u8]) -> u32
     ensures { Did (start_call bytes.now region.old answer.old) result answer.new (region.new ∷ []) }
 {
     if answer.len() != Answer::SIZE {
@@ -97,12 +93,7 @@ pub fn dehlbazin_load_packed(
 }
 
 // Places a foreign lock on a name, kind 0, or on the packed table, kind 1, beside which the number is not looked at.
-pub fn dehlbazin_place_lock(
-    region: &mut [u8],
-    kind: u64,
-    number: u64,
-    answer: &mut [u8],
-) -> u32
+pub fn dehlbazin_place_lock(region: &mut [u8], kind: u64, number: u64, answer: &mut [u8]) -> u32
     ensures { Did (call (place_lock kind number) region.old answer.old) result answer.new (region.new ∷ []) }
 {
     if answer.len() != Answer::SIZE {
@@ -113,12 +104,7 @@ pub fn dehlbazin_place_lock(
 }
 
 // Lifts it.
-pub fn dehlbazin_lift_lock(
-    region: &mut [u8],
-    kind: u64,
-    number: u64,
-    answer: &mut [u8],
-) -> u32
+pub fn dehlbazin_lift_lock(region: &mut [u8], kind: u64, number: u64, answer: &mut [u8]) -> u32
     ensures { Did (call (lift_lock kind number) region.old answer.old) result answer.new (region.new ∷ []) }
 {
     if answer.len() != Answer::SIZE {
@@ -129,12 +115,7 @@ pub fn dehlbazin_lift_lock(
 }
 
 // Judges a list of edits and takes their locks: how many rows the transaction has.
-pub fn dehlbazin_prepare(
-    region: &mut [u8],
-    list: &[u8],
-    mode: u64,
-    answer: &mut [u8],
-) -> u32
+pub fn dehlbazin_prepare(region: &mut [u8], list: &[u8], mode: u64, answer: &mut [u8]) -> u32
     ensures { Did (call (prepare list.now mode) region.old answer.old) result answer.new (region.new ∷ []) }
 {
     if answer.len() != Answer::SIZE {
@@ -145,12 +126,7 @@ pub fn dehlbazin_prepare(
 }
 
 // Makes the writes of the prepared transaction in their order, as many as the allowance lets it: how many it made.
-pub fn dehlbazin_commit(
-    region: &mut [u8],
-    committer: u64,
-    allowance: u64,
-    answer: &mut [u8],
-) -> u32
+pub fn dehlbazin_commit(region: &mut [u8], committer: u64, allowance: u64, answer: &mut [u8]) -> u32
     ensures { Did (call (commit committer allowance) region.old answer.old) result answer.new (region.new ∷ []) }
 {
     if answer.len() != Answer::SIZE {
@@ -183,12 +159,7 @@ pub fn dehlbazin_read_name(region: &[u8], name: u64, answer: &mut [u8]) -> u32
 }
 
 // A line of a name's log, by its place among them.
-pub fn dehlbazin_read_line(
-    region: &[u8],
-    name: u64,
-    place: u64,
-    answer: &mut [u8],
-) -> u32
+pub fn dehlbazin_read_line(region: &[u8], name: u64, place: u64, answer: &mut [u8]) -> u32
     ensures { Did (call (read_line name place) region.now answer.old) result answer.new (region.now ∷ []) }
 {
     if answer.len() != Answer::SIZE {
@@ -247,12 +218,7 @@ pub fn dehlbazin_read_settings(bytes: &[u8], known: u64, answer: &mut [u8]) -> u
 }
 
 // A committer of it by place: its number, and where its name stands in the record.
-pub fn dehlbazin_read_committer(
-    bytes: &[u8],
-    known: u64,
-    place: u64,
-    answer: &mut [u8],
-) -> u32
+pub fn dehlbazin_read_committer(bytes: &[u8], known: u64, place: u64, answer: &mut [u8]) -> u32
     ensures { Did (record_call (read_committer known place) bytes.now answer.old) result answer.new (bytes.now ∷ []) }
 {
     if answer.len() != Answer::SIZE {
@@ -299,11 +265,7 @@ pub fn dehlbazin_fresh_receiver(receiver: &mut [u8], answer: &mut [u8]) -> u32
 }
 
 // Takes a fragment of any length: how many bytes are held now.
-pub fn dehlbazin_take_fragment(
-    receiver: &mut [u8],
-    fragment: &[u8],
-    answer: &mut [u8],
-) -> u32
+pub fn dehlbazin_take_fragment(receiver: &mut [u8], fragment: &[u8], answer: &mut [u8]) -> u32
     ensures { Did (receiver_call (take_fragment fragment.now) receiver.old answer.old) result answer.new (receiver.new ∷ []) }
 {
     if answer.len() != Answer::SIZE {

@@ -1,10 +1,9 @@
 // Where regions come from: files that are named as arguments, or standard input.
 use crate::judge;
 use std::env::FillError;
-use std::fs;
 use std::os::fd::AsRawFd;
 use std::rt::Env;
-use std::str;
+use std::{fs, str};
 
 // Standard input.
 const STDIN_FILENO: i32 = 0;
