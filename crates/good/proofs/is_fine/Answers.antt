@@ -20,8 +20,7 @@ returns-then-not-room_fine c = search room_fails
 
 pub nests_fine-requires : goal.nests_fine-requires
 nests_fine-requires c =
-    let rows = c in
-    (search rules, rows_named _ _ rows.rows_fine.ensures rows.if-not-rows_fine.false)
+    (search rules, rows_named _ _ c.rows_fine.ensures c.if-not-rows_fine.false)
 
 pub returns : goal.returns
 returns c = search nests_decide

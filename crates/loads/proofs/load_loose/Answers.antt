@@ -36,8 +36,7 @@ returns-then-is_nested c = search loose_nested
 
 pub put_loose_at-requires : goal.put_loose_at-requires
 put_loose_at-requires c =
-    let named = c in
-    (search good_laid, (near _ _ _ _ named.known.ensures named.n-1.given.1, search loose_room))
+    (search good_laid, (near _ _ _ _ c.known.ensures c.n-1.given.1, search loose_room))
 
 pub returns : goal.returns
 returns c = search loose_done

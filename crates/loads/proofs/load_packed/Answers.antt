@@ -21,16 +21,14 @@ returns-in_default c = search packed_far
 
 pub name_at-requires : goal.name_at-requires
 name_at-requires c =
-    let named = c in
-    (search good_laid, near _ _ _ _ named.known.ensures named.n-1.given.1)
+    (search good_laid, near _ _ _ _ c.known.ensures c.n-1.given.1)
 
 pub returns-in_default-packed_of : goal.returns-in_default-packed_of
 returns-in_default-packed_of c = search packed_bad
 
 pub put_packed_at-requires : goal.put_packed_at-requires
 put_packed_at-requires c =
-    let named = c in
-    (search good_laid, (near _ _ _ _ named.known.ensures named.n-1.given.1, search packed_room))
+    (search good_laid, (near _ _ _ _ c.known.ensures c.n-1.given.1, search packed_room))
 
 pub returns : goal.returns
 returns c = search packed_done

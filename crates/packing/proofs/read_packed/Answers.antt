@@ -24,15 +24,12 @@ forget_packed-requires c = search good_laid
 
 pub load_lines-requires : goal.load_lines-requires
 load_lines-requires c =
-    let room = c in
-    let checked = room in
-    let moded = checked in
-    let tested = moded in (
+    (
       c.forget_packed.ensures.laid,
       (
         search checked_lines,
-        read_loads _ _ _ tested.is_good.ensures tested.if1.false _ moded.mode-number.ensures _ checked.check.ensures checked.if-mode_number-ne0.false
-            _ room.has_room.ensures room.if-not-has_room.false _ c.forget_packed.ensures,
+        read_loads _ _ _ c.is_good.ensures c.if-not-is_good.false _ c.mode_number.ensures _ c.check-checked.ensures c.if-mode_number-ne0.false
+            _ c.has_room.ensures c.if-not-has_room.false _ c.forget_packed.ensures,
       ),
     )
 

@@ -20,8 +20,4 @@ returns-in_default-find_line c = search line_none
 
 pub returns : goal.returns
 returns c =
-    let read = c in
-    let named = read in
-    let known = named in
-    let tested = known in
-    line_done _ _ tested.is_good.ensures tested.if1.false _ _ _ known.known.ensures _ named.n.given.1 _ _ read.find_line.ensures _ read.line-1.given.1 c.four.ensures
+    line_done _ _ c.is_good.ensures c.if-not-is_good.false _ _ _ c.known.ensures _ c.n-1.given.1 _ _ c.find_line.ensures _ c.line-1.given.1 c.four.ensures

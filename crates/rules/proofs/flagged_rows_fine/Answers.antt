@@ -16,9 +16,6 @@ use Rattle.rules.proofs.flagged_rows_fine.Goals as goal
 pub loop-i-init : goal.loop-i-init
 loop-i-init c = (omega arith, loop_none _, search seen_start)
 
-pub row_stands-ok-requires : goal.row_stands-ok-requires
-row_stands-ok-requires c = (search rules, (search rules, (search rows_upward, search rules)))
-
 pub loop-i-preserved : goal.loop-i-preserved
 loop-i-preserved c = (omega arith, search loop_more, search seen_next)
 

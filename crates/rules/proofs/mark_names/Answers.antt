@@ -9,9 +9,6 @@ use Rattle.rules.proofs.mark_names.Goals as goal
 pub loop-n-init : goal.loop-n-init
 loop-n-init c = search marking_start
 
-pub name_at-requires : goal.name_at-requires
-name_at-requires c = (search rules, placed _ _ _ c.at.ensures (omega arith))
-
 pub bounds-marks-n : goal.bounds-marks-n
 bounds-marks-n c = search marking_room
 

@@ -12,9 +12,6 @@ use Rattle.rules.proofs.marked_fine.Goals as goal
 pub loop-n-init : goal.loop-n-init
 loop-n-init c = (omega arith, loop_none _)
 
-pub name_ok-ok-requires : goal.name_ok-ok-requires
-name_ok-ok-requires c = (search rules, (search rules, omega arith))
-
 pub loop-n-preserved : goal.loop-n-preserved
 loop-n-preserved c = (omega arith, search loop_more)
 

@@ -13,9 +13,6 @@ use Rattle.rules.proofs.name_apart.Goals as goal
 pub loop-m-init : goal.loop-m-init
 loop-m-init c = (omega arith, loop_none _)
 
-pub same_names-same-requires : goal.same_names-same-requires
-same_names-same-requires c = (search rules, (search rules, (search rules, omega arith)))
-
 pub returns-then-same : goal.returns-then-same
 returns-then-same c = search name_stop
 

@@ -17,8 +17,5 @@ returns-then-not-option_ok-2 c = search row_new
 pub returns-then-not-parent_ok : goal.returns-then-not-parent_ok
 returns-then-not-parent_ok c = search row_parent
 
-pub count_ancestors-requires : goal.count_ancestors-requires
-count_ancestors-requires c = (search rules, (search rules, search upward_more))
-
 pub returns : goal.returns
 returns c = search row_rest

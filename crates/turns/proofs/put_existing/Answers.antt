@@ -7,9 +7,4 @@ put_row_at-requires c = (search rules, (search rules, search kept_fits))
 
 pub returns : goal.returns
 returns c =
-    let put = c in
-    let observe = put in
-    let value = observe in
-    let row = value in
-    let s = row in
-    kept_put _ s.args.i s.args.opened _ _ _ row.row_at_lem.ensures value.value_of_lem.ensures observe.observe.ensures _ put.put_row_at.ensures
+    kept_put _ c.args.i c.args.opened _ _ _ c.row_at_lem.ensures c.value_of_lem.ensures c.observe-kept.ensures _ c.put_row_at.ensures

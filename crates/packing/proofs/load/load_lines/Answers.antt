@@ -16,8 +16,7 @@ slice_bounds-load_line-end c = search next_line
 
 pub load_line-requires : goal.load_line-requires
 load_line-requires c =
-    let l = c in
-    (l.loop-left.invariant.laid, load_line _ _ _ _ _ _ l.loop-left.invariant c.loop-left-test.true _ c.up_to_lem.ensures)
+    (c.loop-left.invariant.laid, load_line _ _ _ _ _ _ c.loop-left.invariant c.loop-left-test.true _ c.up_to_lem.ensures)
 
 pub overflow_add-rest : goal.overflow_add-rest
 overflow_add-rest c = omega (arith, byte_within 10 c.loop-left.rest.now)
