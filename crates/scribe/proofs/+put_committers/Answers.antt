@@ -44,10 +44,11 @@ pub put_committers-requires : goal.put_committers-requires
 put_committers-requires t c =
     let r : Room c.args.numbers.now c.args.lengths.now c.args.names.now c.args.slot.now = room_for _ _ _ _ c.requires c.if-numbers-eq0.false in
     let n = 3 + get_or c.args.lengths.now 0 0 - 0 in
-    let h : 0 + n ≤ length c.args.slot.now = omega arith in
-    (search fewer,
-    slot_more _ _ _ _ c.requires c.if-numbers-eq0.false (put 0 n c.args.slot.now c.put_committer.new.slot)
-    (length_put 0 n c.args.slot.now c.put_committer.new.slot h (c.put_committer.auto.slot ∙ length_cut 0 n c.args.slot.now h)))
+    let h : 0 + n ≤ length c.args.slot.now = omega arith in (
+      search fewer,
+      slot_more _ _ _ _ c.requires c.if-numbers-eq0.false (put 0 n c.args.slot.now c.put_committer.new.slot)
+          (length_put 0 n c.args.slot.now c.put_committer.new.slot h (c.put_committer.auto.slot ∙ length_cut 0 n c.args.slot.now h)),
+    )
 
 pub returns : goal.returns
 returns t c = search committers_put
