@@ -16,6 +16,10 @@ use Rattle.rules.proofs.flagged_rows_fine.Goals as goal
 pub loop-i-init : goal.loop-i-init
 loop-i-init c = (omega arith, loop_none _, search seen_start)
 
+pub row_stands-ok-requires-clause-upward : goal.row_stands-ok-requires-clause-upward
+row_stands-ok-requires-clause-upward c =
+    search rows_upward
+
 pub loop-i-preserved : goal.loop-i-preserved
 loop-i-preserved c = (omega arith, search loop_more, search seen_next)
 

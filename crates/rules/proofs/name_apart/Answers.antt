@@ -13,6 +13,10 @@ use Rattle.rules.proofs.name_apart.Goals as goal
 pub loop-m-init : goal.loop-m-init
 loop-m-init c = (omega arith, loop_none _)
 
+pub same_names-same-requires-clause-n_bound : goal.same_names-same-requires-clause-n_bound
+same_names-same-requires-clause-n_bound c =
+    (search rules, omega arith)
+
 pub returns-then-same : goal.returns-then-same
 returns-then-same c = search name_stop
 

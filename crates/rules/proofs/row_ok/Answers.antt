@@ -17,5 +17,9 @@ returns-then-not-option_ok-2 c = search row_new
 pub returns-then-not-parent_ok : goal.returns-then-not-parent_ok
 returns-then-not-parent_ok c = search row_parent
 
+pub count_ancestors-requires-clause-upward : goal.count_ancestors-requires-clause-upward
+count_ancestors-requires-clause-upward c =
+    search upward_more
+
 pub returns : goal.returns
 returns c = search row_rest

@@ -7,9 +7,6 @@ use Rattle.turns.proofs.take_turns.Goals as goal
 pub loop-i-init : goal.loop-i-init
 loop-i-init c = search far_start
 
-pub lock_ref_and_apply_change-judged-requires : goal.lock_ref_and_apply_change-judged-requires
-lock_ref_and_apply_change-judged-requires c = (search rules, (omega arith, search rules))
-
 pub returns-in_default : goal.returns-in_default
 returns-in_default c = search far_stop
 
