@@ -15,3 +15,7 @@ returns-in-Number c = search ahead_out
 
 pub returns : goal.returns
 returns c = search ahead_end
+
+pub number_out-out-requires-clause-part_value : goal.number_out-out-requires-clause-part_value
+number_out-out-requires-clause-part_value c =
+    (ahead_part c.args.names c.args.list.now c.loop-at.at c.loop-at.invariant (search rules)).1

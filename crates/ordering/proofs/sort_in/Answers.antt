@@ -21,10 +21,5 @@ pub place-at-requires-clause-numbers_value : goal.place-at-requires-clause-numbe
 place-at-requires-clause-numbers_value c =
     search order_rises
 
-pub open-requires : goal.open-requires
-
-
-open-requires c κs = search rules
-
 pub returns : goal.returns
 returns c = search order_more

@@ -9,16 +9,3 @@ put_row_at-requires-clause-fits_row c =
 
 pub returns-in_default : goal.returns-in_default
 returns-in_default c = search step_none
-
-pub add_row-requires : goal.add_row-requires
-add_row-requires c =
-    (
-      search rules,
-      room_left _ _ _ c.args.follow _ _ _ c.requires.region_value c.row_at_lem.ensures c.follow_row-to.ensures c.settle-kept.ensures
-          c.put_row_at.ensures _ _ c.requires.laid c.requires.i_in_bounds c.requires.region_len_bound c.to-1.given.1 c.child.ensures,
-    )
-
-pub returns : goal.returns
-returns c =
-    step_split _ _ _ c.args.follow _ _ _ c.requires.region_value c.row_at_lem.ensures c.follow_row-to.ensures c.settle-kept.ensures
-    c.put_row_at.ensures _ _ _ c.to-1.given.1 c.child.ensures c.add_row.ensures

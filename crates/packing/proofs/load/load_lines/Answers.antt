@@ -20,7 +20,7 @@ load_line-requires-clause-laid c =
 
 pub load_line-requires-clause-line_loads : goal.load_line-requires-clause-line_loads
 load_line-requires-clause-line_loads c =
-    load_line _ _ _ _ _ _ c.loop-left.invariant c.loop-left-test.true _ c.up_to_lem.ensures
+    load_line _ _ _ _ _ _ c.loop-left.invariant c.loop-left-test.true _ c.up_to-length.ensures
 
 pub overflow_add-rest : goal.overflow_add-rest
 overflow_add-rest c = omega (arith, byte_within 10 c.loop-left.rest.now)
