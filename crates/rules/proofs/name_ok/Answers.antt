@@ -1,6 +1,4 @@
-use native.Mathlib.Omega.{arith}
-use borrow.Author.Rules.{rules}
-use Rattle.rules.proofs.Laws.{placed, name_entry, name_rest}
+use Rattle.rules.proofs.Laws.{name_entry, name_rest}
 use Rattle.rules.proofs.name_ok.Goals as goal
 
 pub returns-then-not-entry_ok : goal.returns-then-not-entry_ok

@@ -1,5 +1,4 @@
-use Rattle.rules.proofs.Laws.{row_name, row_deref, row_previous, row_new, row_parent, upward_more, row_rest}
-use borrow.Author.Rules.{rules}
+use Rattle.rules.proofs.Laws.{row_name, row_deref, row_previous, row_new, row_parent, row_rest}
 use Rattle.rules.proofs.row_ok.Goals as goal
 
 pub returns-then-place-count : goal.returns-then-place-count
