@@ -34,9 +34,17 @@ is_nested-requires c = search good_laid
 pub returns-then-is_nested : goal.returns-then-is_nested
 returns-then-is_nested c = search loose_nested
 
-pub put_loose_at-requires : goal.put_loose_at-requires
-put_loose_at-requires c =
-    (search good_laid, (near _ _ _ _ c.known.ensures c.n-1.given.1, search loose_room))
+pub put_loose_at-requires-clause-laid : goal.put_loose_at-requires-clause-laid
+put_loose_at-requires-clause-laid c =
+    search good_laid
+
+pub put_loose_at-requires-clause-n_bound : goal.put_loose_at-requires-clause-n_bound
+put_loose_at-requires-clause-n_bound c =
+    near _ _ _ _ c.known.ensures c.n-1.given.1
+
+pub put_loose_at-requires-clause-fits_loose : goal.put_loose_at-requires-clause-fits_loose
+put_loose_at-requires-clause-fits_loose c =
+    search loose_room
 
 pub returns : goal.returns
 returns c = search loose_done

@@ -20,7 +20,7 @@ at-other-requires c =
 
 pub loop-low-preserved-then-first : goal.loop-low-preserved-then-first
 loop-low-preserved-then-first c =
-    narrow_down _ _ _ c.requires.1.0 c.requires.1.1 c.loop-low.low c.loop-low.high (search rules) _ _ _ _ _
+    narrow_down _ _ _ c.requires.held_in_bounds c.requires.numbers_value c.loop-low.low c.loop-low.high (search rules) _ _ _ _ _
     c.loop-low.invariant c.at-other.ensures c.bytes_of.ensures c.bytes_of-in-loop-low.ensures c.is_before-first.ensures (search rules)
 
 pub loop-low-preserved : goal.loop-low-preserved

@@ -1,3 +1,5 @@
+use Rattle.std.specs.Prelude.{not}
+use Rattle.std.proofs.Common.{ap}
 use borrow.Author.Rules.{rules}
 use Rattle.calls.proofs.Replies.{good_laid, bad_region}
 use Rattle.reads.proofs.Laws.{line_far, line_none, line_done}
@@ -20,4 +22,4 @@ returns-in_default-find_line c = search line_none
 
 pub returns : goal.returns
 returns c =
-    line_done _ _ c.is_good.ensures c.if-not-is_good.false _ _ _ c.known.ensures _ c.n-1.given.1 _ _ c.find_line.ensures _ c.line-1.given.1 c.four.ensures
+    line_done _ _ c.is_good.ensures (ap not c.if-not-is_good.false) _ _ _ c.known.ensures _ c.n-1.given.1 _ _ c.find_line.ensures _ c.line-1.given.1 c.four.ensures

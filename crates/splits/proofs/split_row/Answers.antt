@@ -3,8 +3,9 @@ use Rattle.splits.proofs.Table.{step_none, step_split, room_left}
 use Rattle.splits.proofs.Fits.{fits_kept}
 use Rattle.splits.proofs.split_row.Goals as goal
 
-pub put_row_at-requires : goal.put_row_at-requires
-put_row_at-requires c = (search rules, (search rules, search fits_kept))
+pub put_row_at-requires-clause-fits_row : goal.put_row_at-requires-clause-fits_row
+put_row_at-requires-clause-fits_row c =
+    search fits_kept
 
 pub returns-in_default : goal.returns-in_default
 returns-in_default c = search step_none
@@ -13,11 +14,11 @@ pub add_row-requires : goal.add_row-requires
 add_row-requires c =
     (
       search rules,
-      room_left _ _ _ c.args.follow _ _ _ c.requires.1.0 c.row_at_lem.ensures c.follow_row-to.ensures c.settle-kept.ensures
-          c.put_row_at.ensures _ _ c.requires.0 c.requires.1.1.0 c.requires.1.1.1 c.to-1.given.1 c.child.ensures,
+      room_left _ _ _ c.args.follow _ _ _ c.requires.region_value c.row_at_lem.ensures c.follow_row-to.ensures c.settle-kept.ensures
+          c.put_row_at.ensures _ _ c.requires.laid c.requires.i_in_bounds c.requires.region_len_bound c.to-1.given.1 c.child.ensures,
     )
 
 pub returns : goal.returns
 returns c =
-    step_split _ _ _ c.args.follow _ _ _ c.requires.1.0 c.row_at_lem.ensures c.follow_row-to.ensures c.settle-kept.ensures
+    step_split _ _ _ c.args.follow _ _ _ c.requires.region_value c.row_at_lem.ensures c.follow_row-to.ensures c.settle-kept.ensures
     c.put_row_at.ensures _ _ _ c.to-1.given.1 c.child.ensures c.add_row.ensures

@@ -11,11 +11,13 @@ use Rattle.steps.proofs.free_names.Goals as goal
 pub loop-n-init : goal.loop-n-init
 loop-n-init c = (omega arith, refl, search freed_none)
 
-pub lock_at-requires : goal.lock_at-requires
-lock_at-requires c = (search rules, search freed_below)
+pub lock_at-requires-clause-n_bound : goal.lock_at-requires-clause-n_bound
+lock_at-requires-clause-n_bound c =
+    search freed_below
 
-pub put_lock_at-requires : goal.put_lock_at-requires
-put_lock_at-requires c = (search rules, search freed_below)
+pub put_lock_at-requires-clause-n_bound : goal.put_lock_at-requires-clause-n_bound
+put_lock_at-requires-clause-n_bound c =
+    search freed_below
 
 pub loop-n-preserved : goal.loop-n-preserved
 loop-n-preserved c =
