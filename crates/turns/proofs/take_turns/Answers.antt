@@ -1,7 +1,4 @@
-use Prim.Native.Nat.{◌-◌}
-use native.Mathlib.Omega.{arith}
-use borrow.Author.Rules.{rules}
-use Rattle.turns.proofs.Turns.{Far, far_start, far_more, far_stop, far_end}
+use Rattle.turns.proofs.Turns.{far_start, far_more, far_stop, far_end}
 use Rattle.turns.proofs.take_turns.Goals as goal
 
 pub loop-i-init : goal.loop-i-init
