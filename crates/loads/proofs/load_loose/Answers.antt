@@ -38,10 +38,6 @@ pub put_loose_at-requires-clause-laid : goal.put_loose_at-requires-clause-laid
 put_loose_at-requires-clause-laid c =
     search good_laid
 
-pub put_loose_at-requires-clause-n_bound : goal.put_loose_at-requires-clause-n_bound
-put_loose_at-requires-clause-n_bound c =
-    near _ _ _ _ c.known.ensures c.n-1.given.1
-
 pub put_loose_at-requires-clause-fits_loose : goal.put_loose_at-requires-clause-fits_loose
 put_loose_at-requires-clause-fits_loose c =
     search loose_room

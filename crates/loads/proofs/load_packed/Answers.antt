@@ -23,20 +23,12 @@ pub name_at-requires-clause-laid : goal.name_at-requires-clause-laid
 name_at-requires-clause-laid c =
     search good_laid
 
-pub name_at-requires-clause-n_bound : goal.name_at-requires-clause-n_bound
-name_at-requires-clause-n_bound c =
-    near _ _ _ _ c.known.ensures c.n-1.given.1
-
 pub returns-in_default-packed_of : goal.returns-in_default-packed_of
 returns-in_default-packed_of c = search packed_bad
 
 pub put_packed_at-requires-clause-laid : goal.put_packed_at-requires-clause-laid
 put_packed_at-requires-clause-laid c =
     search good_laid
-
-pub put_packed_at-requires-clause-n_bound : goal.put_packed_at-requires-clause-n_bound
-put_packed_at-requires-clause-n_bound c =
-    near _ _ _ _ c.known.ensures c.n-1.given.1
 
 pub put_packed_at-requires-clause-fits_packed : goal.put_packed_at-requires-clause-fits_packed
 put_packed_at-requires-clause-fits_packed c =
