@@ -10,9 +10,6 @@ use Rattle.beneath.proofs.meets_earlier.Goals as goal
 pub loop-j-init : goal.loop-j-init
 loop-j-init c = search earlier_start
 
-pub meets_row-yes-requires : goal.meets_row-yes-requires
-meets_row-yes-requires c = (search rules, search row_inside)
-
 pub returns-then-yes : goal.returns-then-yes
 returns-then-yes c = search earlier_here
 

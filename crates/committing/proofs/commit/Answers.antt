@@ -12,8 +12,17 @@ mode_number-requires c = search good_laid
 pub returns-then-mode_number-eq0 : goal.returns-then-mode_number-eq0
 returns-then-mode_number-eq0 c = search commit_idle
 
-pub commit_prepared-requires : goal.commit_prepared-requires
-commit_prepared-requires c = (search good_laid, (search good_fine, search busy))
+pub commit_prepared-requires-clause-laid : goal.commit_prepared-requires-clause-laid
+commit_prepared-requires-clause-laid c =
+    search good_laid
+
+pub commit_prepared-requires-clause-fine : goal.commit_prepared-requires-clause-fine
+commit_prepared-requires-clause-fine c =
+    search good_fine
+
+pub commit_prepared-requires-clause-region_value : goal.commit_prepared-requires-clause-region_value
+commit_prepared-requires-clause-region_value c =
+    search busy
 
 pub returns : goal.returns
 returns c = search commit_done

@@ -2,17 +2,37 @@ use Rattle.committing.proofs.Making.{line_room, line_fits, loose_named, loose_fi
 use borrow.Author.Rules.{rules}
 use Rattle.committing.proofs.make.Goals as goal
 
-pub add_line-requires : goal.add_line-requires
-add_line-requires c = (search rules, (search line_room, search line_fits))
+pub add_line-requires-clause-region_len_bound : goal.add_line-requires-clause-region_len_bound
+add_line-requires-clause-region_len_bound c =
+    search line_room
 
-pub put_loose_at-requires : goal.put_loose_at-requires
-put_loose_at-requires c = (search rules, (search loose_named, search loose_fits))
+pub add_line-requires-clause-fits_line : goal.add_line-requires-clause-fits_line
+add_line-requires-clause-fits_line c =
+    search line_fits
 
-pub pack_rows-requires : goal.pack_rows-requires
-pack_rows-requires c = (search rules, (search pack_named, search pack_apart))
+pub put_loose_at-requires-clause-n_bound : goal.put_loose_at-requires-clause-n_bound
+put_loose_at-requires-clause-n_bound c =
+    search loose_named
 
-pub put_loose_at-requires-in-RemoveLoose : goal.put_loose_at-requires-in-RemoveLoose
-put_loose_at-requires-in-RemoveLoose c = (search rules, (search removed_named, tt))
+pub put_loose_at-requires-clause-fits_loose : goal.put_loose_at-requires-clause-fits_loose
+put_loose_at-requires-clause-fits_loose c =
+    search loose_fits
+
+pub pack_rows-requires-clause-named : goal.pack_rows-requires-clause-named
+pack_rows-requires-clause-named c =
+    search pack_named
+
+pub pack_rows-requires-clause-apart : goal.pack_rows-requires-clause-apart
+pack_rows-requires-clause-apart c =
+    search pack_apart
+
+pub put_loose_at-requires-in-RemoveLoose-clause-n_bound : goal.put_loose_at-requires-in-RemoveLoose-clause-n_bound
+put_loose_at-requires-in-RemoveLoose-clause-n_bound c =
+    search removed_named
+
+pub put_loose_at-requires-in-RemoveLoose-clause-fits_loose : goal.put_loose_at-requires-in-RemoveLoose-clause-fits_loose
+put_loose_at-requires-in-RemoveLoose-clause-fits_loose c =
+    tt
 
 pub returns-in-NoWrite : goal.returns-in-NoWrite
 returns-in-NoWrite c = search makes_nothing

@@ -7,11 +7,6 @@ use Rattle.edits.proofs.first_out.Goals as goal
 pub loop-at-init : goal.loop-at-init
 loop-at-init c = search ahead_start
 
-pub number_out-out-requires : goal.number_out-out-requires
-number_out-out-requires c =
-    let a = c in
-    ahead_part a.args.names a.args.list.now a.loop-at.at a.loop-at.invariant (search rules)
-
 pub loop-at-preserved : goal.loop-at-preserved
 loop-at-preserved c = search ahead_more
 
@@ -20,3 +15,7 @@ returns-in-Number c = search ahead_out
 
 pub returns : goal.returns
 returns c = search ahead_end
+
+pub number_out-out-requires-clause-part_value : goal.number_out-out-requires-clause-part_value
+number_out-out-requires-clause-part_value c =
+    (ahead_part c.args.names c.args.list.now c.loop-at.at c.loop-at.invariant (search rules)).1

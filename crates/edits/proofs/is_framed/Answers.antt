@@ -10,8 +10,7 @@ returns-then-byte_at-ne-VERSION c = search frame_version
 
 pub overflow_add-get_at : goal.overflow_add-get_at
 overflow_add-get_at c =
-    let a = c in
-    let l = length_fits a.args.list.now a.shared_slice_known-1.given _ c.get_at.ensures in
+    let l = length_fits c.args.list.now c.shared_slice_known-1.given _ c.get_at.ensures in
     search rules
 
 pub returns-then-get_at-list : goal.returns-then-get_at-list
@@ -19,10 +18,8 @@ returns-then-get_at-list c = search frame_length
 
 pub returns-then-count-gt-LIMIT : goal.returns-then-count-gt-LIMIT
 returns-then-count-gt-LIMIT c =
-    let a = c in
-    frame_many a.args.list.now _ c.byte_at-count.ensures (search rules)
+    frame_many c.args.list.now _ c.byte_at-count.ensures (search rules)
 
 pub returns : goal.returns
 returns c =
-    let a = c in
-    search (frame_rest a.args.list.now a.shared_slice_known-1.given)
+    search (frame_rest c.args.list.now c.shared_slice_known-1.given)

@@ -8,8 +8,10 @@ overflow_mul-at c = search slot_offset
 pub overflow_add-at : goal.overflow_add-at
 overflow_add-at c = search slot_from
 
-pub slots_ok-requires : goal.slots_ok-requires
-slots_ok-requires c = (search rules, (search slot_ends, (search rules, (search rules, search rules))))
+pub slots_ok-requires-clause-width_in_bounds : goal.slots_ok-requires-clause-width_in_bounds
+slots_ok-requires-clause-width_in_bounds c =
+    search slot_ends
 
-pub slots_ok-requires-2 : goal.slots_ok-requires-2
-slots_ok-requires-2 c = (search rules, (search slot_ends, (search rules, (search rules, search rules))))
+pub slots_ok-requires-2-clause-width_in_bounds : goal.slots_ok-requires-2-clause-width_in_bounds
+slots_ok-requires-2-clause-width_in_bounds c =
+    search slot_ends

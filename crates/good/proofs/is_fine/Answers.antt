@@ -1,3 +1,5 @@
+use Rattle.std.specs.Prelude.{not}
+use Rattle.std.proofs.Common.{ap}
 use borrow.Author.Rules.{rules}
 use Rattle.rows.proofs.Named.{rows_named}
 use Rattle.good.proofs.Laws.{names_fail, lines_fail, rows_fail, locks_fail, room_fails, nests_decide}
@@ -18,10 +20,9 @@ returns-then-not-locks_fine c = search locks_fail
 pub returns-then-not-room_fine : goal.returns-then-not-room_fine
 returns-then-not-room_fine c = search room_fails
 
-pub nests_fine-requires : goal.nests_fine-requires
-nests_fine-requires c =
-    let rows = c in
-    (search rules, rows_named _ _ rows.rows_fine.ensures rows.if-not-rows_fine.false)
+pub nests_fine-requires-clause-named : goal.nests_fine-requires-clause-named
+nests_fine-requires-clause-named c =
+    rows_named _ _ c.rows_fine.ensures (ap not c.if-not-rows_fine.false)
 
 pub returns : goal.returns
 returns c = search nests_decide

@@ -2,5 +2,6 @@ use Rattle.word.proofs.Flags.{all_down}
 use borrow.Author.Rules.{rules}
 use Rattle.kept.proofs.count_due.Goals as goal
 
-pub flag_lines-requires : goal.flag_lines-requires
-flag_lines-requires c = (search rules, search all_down)
+pub flag_lines-requires-clause-flags : goal.flag_lines-requires-clause-flags
+flag_lines-requires-clause-flags c =
+    search all_down

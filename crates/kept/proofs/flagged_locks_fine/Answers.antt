@@ -12,8 +12,9 @@ use Rattle.kept.proofs.flagged_locks_fine.Goals as goal
 pub loop-n-init : goal.loop-n-init
 loop-n-init c = (omega arith, none_below _)
 
-pub lock_fine-ok-requires : goal.lock_fine-ok-requires
-lock_fine-ok-requires c = (search rules, (search rules, search placed))
+pub lock_fine-ok-requires-clause-n_bound : goal.lock_fine-ok-requires-clause-n_bound
+lock_fine-ok-requires-clause-n_bound c =
+    search placed
 
 pub loop-n-preserved : goal.loop-n-preserved
 loop-n-preserved c = (omega arith, search all_more)

@@ -8,8 +8,9 @@ returns-then-region-ne-SIZE c = search layout_size
 pub returns-then-not-head_ok : goal.returns-then-not-head_ok
 returns-then-not-head_ok c = search layout_head
 
-pub tables_ok-requires : goal.tables_ok-requires
-tables_ok-requires c = (search rules, search head_passed)
+pub tables_ok-requires-clause-region_value : goal.tables_ok-requires-clause-region_value
+tables_ok-requires-clause-region_value c =
+    search head_passed
 
 pub returns : goal.returns
 returns c = search layout_tables

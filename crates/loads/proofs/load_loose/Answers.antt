@@ -34,10 +34,13 @@ is_nested-requires c = search good_laid
 pub returns-then-is_nested : goal.returns-then-is_nested
 returns-then-is_nested c = search loose_nested
 
-pub put_loose_at-requires : goal.put_loose_at-requires
-put_loose_at-requires c =
-    let named = c in
-    (search good_laid, (near _ _ _ _ named.known.ensures named.n-1.given.1, search loose_room))
+pub put_loose_at-requires-clause-laid : goal.put_loose_at-requires-clause-laid
+put_loose_at-requires-clause-laid c =
+    search good_laid
+
+pub put_loose_at-requires-clause-fits_loose : goal.put_loose_at-requires-clause-fits_loose
+put_loose_at-requires-clause-fits_loose c =
+    search loose_room
 
 pub returns : goal.returns
 returns c = search loose_done

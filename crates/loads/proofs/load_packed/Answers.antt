@@ -19,18 +19,20 @@ known-requires c = search good_laid
 pub returns-in_default : goal.returns-in_default
 returns-in_default c = search packed_far
 
-pub name_at-requires : goal.name_at-requires
-name_at-requires c =
-    let named = c in
-    (search good_laid, near _ _ _ _ named.known.ensures named.n-1.given.1)
+pub name_at-requires-clause-laid : goal.name_at-requires-clause-laid
+name_at-requires-clause-laid c =
+    search good_laid
 
 pub returns-in_default-packed_of : goal.returns-in_default-packed_of
 returns-in_default-packed_of c = search packed_bad
 
-pub put_packed_at-requires : goal.put_packed_at-requires
-put_packed_at-requires c =
-    let named = c in
-    (search good_laid, (near _ _ _ _ named.known.ensures named.n-1.given.1, search packed_room))
+pub put_packed_at-requires-clause-laid : goal.put_packed_at-requires-clause-laid
+put_packed_at-requires-clause-laid c =
+    search good_laid
+
+pub put_packed_at-requires-clause-fits_packed : goal.put_packed_at-requires-clause-fits_packed
+put_packed_at-requires-clause-fits_packed c =
+    search packed_room
 
 pub returns : goal.returns
 returns c = search packed_done

@@ -2,8 +2,9 @@ use borrow.Author.Rules.{rules}
 use Rattle.locks.proofs.Laws.{there_near, lock_name_lem, lock_table}
 use Rattle.locks.proofs.lock_of.Goals as goal
 
-pub lock_at-requires : goal.lock_at-requires
-lock_at-requires c = (search rules, search there_near)
+pub lock_at-requires-clause-n_bound : goal.lock_at-requires-clause-n_bound
+lock_at-requires-clause-n_bound c =
+    search there_near
 
 pub returns-in-Name : goal.returns-in-Name
 returns-in-Name c = search lock_name_lem

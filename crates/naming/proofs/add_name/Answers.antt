@@ -21,8 +21,17 @@ count_names-n-requires c = search good_laid
 pub returns-then-n-ge-LIMIT : goal.returns-then-n-ge-LIMIT
 returns-then-n-ge-LIMIT c = search add_full
 
-pub add_name-requires : goal.add_name-requires
-add_name-requires c = (search good_laid, (count_room _ _ c.count_names-n.ensures c.if-n-ge-LIMIT.false, search name_room))
+pub add_name-requires-clause-laid : goal.add_name-requires-clause-laid
+add_name-requires-clause-laid c =
+    search good_laid
+
+pub add_name-requires-clause-region_bound : goal.add_name-requires-clause-region_bound
+add_name-requires-clause-region_bound c =
+    count_room _ _ c.count_names-n.ensures c.if-n-ge-LIMIT.false
+
+pub add_name-requires-clause-name_len_bound : goal.add_name-requires-clause-name_len_bound
+add_name-requires-clause-name_len_bound c =
+    search name_room
 
 pub returns : goal.returns
 returns c = search add_done

@@ -3,8 +3,9 @@ use borrow.Author.Rules.{rules}
 use Rattle.nests.proofs.Laws.{few_names, nests_loose, nests_none, nests_rows}
 use Rattle.nests.proofs.nests_fine.Goals as goal
 
-pub flag_loose-requires : goal.flag_loose-requires
-flag_loose-requires c = (search rules, search all_down)
+pub flag_loose-requires-clause-flags : goal.flag_loose-requires-clause-flags
+flag_loose-requires-clause-flags c =
+    search all_down
 
 pub returns-then-not-none_under : goal.returns-then-not-none_under
 returns-then-not-none_under c = search (nests_loose, few_names)

@@ -9,8 +9,9 @@ use Rattle.nests.proofs.none_sized.Goals as goal
 pub loop-n-init : goal.loop-n-init
 loop-n-init c = search none_start
 
-pub is_flagged_under-yes-requires : goal.is_flagged_under-yes-requires
-is_flagged_under-yes-requires c = (search rules, (search inside, search rules))
+pub is_flagged_under-yes-requires-clause-n_bound : goal.is_flagged_under-yes-requires-clause-n_bound
+is_flagged_under-yes-requires-clause-n_bound c =
+    search inside
 
 pub returns-then-yes : goal.returns-then-yes
 returns-then-yes c = search none_here

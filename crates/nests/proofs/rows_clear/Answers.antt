@@ -4,14 +4,16 @@ use borrow.Author.Rules.{rules}
 use Rattle.nests.proofs.Laws.{few_names}
 use Rattle.nests.proofs.rows_clear.Goals as goal
 
-pub flag_rows-requires : goal.flag_rows-requires
-flag_rows-requires c = (search rules, search all_down)
+pub flag_rows-requires-clause-flags : goal.flag_rows-requires-clause-flags
+flag_rows-requires-clause-flags c =
+    search all_down
 
 pub returns-then-not-none_under : goal.returns-then-not-none_under
 returns-then-not-none_under c = search (rows_under, few_names)
 
-pub flag_rows-requires-2 : goal.flag_rows-requires-2
-flag_rows-requires-2 c = (search rules, search all_down)
+pub flag_rows-requires-2-clause-flags : goal.flag_rows-requires-2-clause-flags
+flag_rows-requires-2-clause-flags c =
+    search all_down
 
 pub returns-then-not-none_under-2 : goal.returns-then-not-none_under-2
 returns-then-not-none_under-2 c = search (rows_over, few_names)

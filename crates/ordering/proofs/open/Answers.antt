@@ -12,8 +12,7 @@ loop-i-init c = (search rules, omega arith, refl, search open_start)
 
 pub loop-i-preserved : goal.loop-i-preserved
 loop-i-preserved c =
-    let held = c in
-    (omega arith, omega arith, rw length-set held.loop-i.invariant.2, open_more _ _ (search rules) _ _ (omega arith) (omega arith) held.loop-i.invariant.3)
+    (omega arith, omega arith, rw length-set c.loop-i.invariant.2, open_more _ _ (search rules) _ _ (omega arith) (omega arith) c.loop-i.invariant.3)
 
 pub shape_of-numbers : goal.shape_of-numbers
 shape_of-numbers c = c.loop-i.invariant.2

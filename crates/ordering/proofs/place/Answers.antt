@@ -20,14 +20,8 @@ at-other-requires c =
 
 pub loop-low-preserved-then-first : goal.loop-low-preserved-then-first
 loop-low-preserved-then-first c =
-    let asked = c in
-    let second = asked in
-    let first = second in
-    let at = first in
-    let inside = at in
-    let start = inside in
-    narrow_down _ _ _ start.requires.1.0 start.requires.1.1 inside.loop-low.low inside.loop-low.high (search rules) _ _ _ _ _
-    inside.loop-low.invariant at.at.ensures first.bytes_of.ensures second.bytes-of2.ensures asked.is_before-first.ensures (search rules)
+    narrow_down _ _ _ c.requires.held_in_bounds c.requires.numbers_value c.loop-low.low c.loop-low.high (search rules) _ _ _ _ _
+    c.loop-low.invariant c.at-other.ensures c.bytes_of.ensures c.bytes_of-in-loop-low.ensures c.is_before-first.ensures (search rules)
 
 pub loop-low-preserved : goal.loop-low-preserved
 loop-low-preserved c = search narrow_up

@@ -13,8 +13,9 @@ count_names-n-requires c = search good_laid
 pub loop-n-init : goal.loop-n-init
 loop-n-init c = (omega arith, search order_start)
 
-pub sort_in-held-requires : goal.sort_in-held-requires
-sort_in-held-requires c = (search rules, (omega arith, search order_next))
+pub sort_in-held-requires-clause-ordered : goal.sort_in-held-requires-clause-ordered
+sort_in-held-requires-clause-ordered c =
+    search order_next
 
 pub loop-n-preserved : goal.loop-n-preserved
 loop-n-preserved c = (omega arith, search rules)

@@ -2,19 +2,24 @@ use borrow.Author.Rules.{rules}
 use Rattle.ordering.proofs.Sorts.{good_laid, order_rises, order_same, order_more, name_below_lem}
 use Rattle.ordering.proofs.sort_in.Goals as goal
 
-pub packed_at-requires : goal.packed_at-requires
-packed_at-requires c = (search good_laid, search name_below_lem)
+pub packed_at-requires-clause-laid : goal.packed_at-requires-clause-laid
+packed_at-requires-clause-laid c =
+    search good_laid
+
+pub packed_at-requires-clause-n_bound : goal.packed_at-requires-clause-n_bound
+packed_at-requires-clause-n_bound c =
+    search name_below_lem
 
 pub returns-in_default : goal.returns-in_default
 returns-in_default c = search order_same
 
-pub place-at-requires : goal.place-at-requires
-place-at-requires c = (search good_laid, (search rules, search order_rises))
+pub place-at-requires-clause-laid : goal.place-at-requires-clause-laid
+place-at-requires-clause-laid c =
+    search good_laid
 
-pub open-requires : goal.open-requires
-
-
-open-requires c κs = search rules
+pub place-at-requires-clause-numbers_value : goal.place-at-requires-clause-numbers_value
+place-at-requires-clause-numbers_value c =
+    search order_rises
 
 pub returns : goal.returns
 returns c = search order_more

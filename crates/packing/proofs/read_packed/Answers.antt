@@ -1,3 +1,5 @@
+use Rattle.std.specs.Prelude.{not}
+use Rattle.std.proofs.Common.{ap}
 use borrow.Author.Rules.{rules}
 use native.Mathlib.Omega.{arith}
 use Rattle.calls.proofs.Replies.{good_laid, bad_region}
@@ -13,8 +15,13 @@ mode_number-requires c = search good_laid
 pub returns-then-mode_number-ne0 : goal.returns-then-mode_number-ne0
 returns-then-mode_number-ne0 c = search read_busy
 
-pub has_room-requires : goal.has_room-requires
-has_room-requires c = (search good_laid, search checked_lines)
+pub has_room-requires-clause-laid : goal.has_room-requires-clause-laid
+has_room-requires-clause-laid c =
+    search good_laid
+
+pub has_room-requires-clause-lines_in_bounds : goal.has_room-requires-clause-lines_in_bounds
+has_room-requires-clause-lines_in_bounds c =
+    search checked_lines
 
 pub returns-then-not-has_room : goal.returns-then-not-has_room
 returns-then-not-has_room c = search read_full
@@ -22,19 +29,21 @@ returns-then-not-has_room c = search read_full
 pub forget_packed-requires : goal.forget_packed-requires
 forget_packed-requires c = search good_laid
 
-pub load_lines-requires : goal.load_lines-requires
-load_lines-requires c =
-    let room = c in
-    let checked = room in
-    let moded = checked in
-    let tested = moded in (
-      c.forget_packed.ensures.laid,
-      (
+pub load_lines-requires-clause-laid : goal.load_lines-requires-clause-laid
+load_lines-requires-clause-laid c =
+    c.forget_packed.ensures.laid
+
+pub load_lines-requires-clause-lines_in_bounds : goal.load_lines-requires-clause-lines_in_bounds
+load_lines-requires-clause-lines_in_bounds c =
+    (
         search checked_lines,
-        read_loads _ _ _ tested.is_good.ensures tested.if1.false _ moded.mode-number.ensures _ checked.check.ensures checked.if-mode_number-ne0.false
-            _ room.has_room.ensures room.if-not-has_room.false _ c.forget_packed.ensures,
-      ),
-    )
+        read_loads _ _ _ c.is_good.ensures (ap not c.if-not-is_good.false) _ c.mode_number.ensures _ c.check-checked.ensures c.if-mode_number-ne0.false
+            _ c.has_room.ensures (ap not c.if-not-has_room.false) _ c.forget_packed.ensures,
+      )
+
+pub load_lines-requires-clause-lines_load : goal.load_lines-requires-clause-lines_load
+load_lines-requires-clause-lines_load c =
+    
 
 pub returns-in-Malformed : goal.returns-in-Malformed
 returns-in-Malformed c = search read_malformed

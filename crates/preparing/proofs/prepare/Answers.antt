@@ -12,8 +12,17 @@ mode_number-requires c = search good_laid
 pub returns-then-mode_number-ne0 : goal.returns-then-mode_number-ne0
 returns-then-mode_number-ne0 c = search prepare_busy
 
-pub prepare_idle-requires : goal.prepare_idle-requires
-prepare_idle-requires c = (search good_laid, (search good_fine, search idle_none))
+pub prepare_idle-requires-clause-laid : goal.prepare_idle-requires-clause-laid
+prepare_idle-requires-clause-laid c =
+    search good_laid
+
+pub prepare_idle-requires-clause-fine : goal.prepare_idle-requires-clause-fine
+prepare_idle-requires-clause-fine c =
+    search good_fine
+
+pub prepare_idle-requires-clause-region_value : goal.prepare_idle-requires-clause-region_value
+prepare_idle-requires-clause-region_value c =
+    search idle_none
 
 pub returns : goal.returns
 returns c = search prepare_done

@@ -8,8 +8,9 @@ returns-then-not-is_list c = search idle_unformed
 pub returns-in_default : goal.returns-in_default
 returns-in_default c = search idle_unmoded
 
-pub prepare_list-requires : goal.prepare_list-requires
-prepare_list-requires c = (search rules, (search rules, (search rules, search formed_is)))
+pub prepare_list-requires-clause-list_value : goal.prepare_list-requires-clause-list_value
+prepare_list-requires-clause-list_value c =
+    search formed_is
 
 pub returns : goal.returns
 returns c = search idle_done

@@ -2,8 +2,9 @@ use borrow.Author.Rules.{rules}
 use Rattle.preparing.proofs.Preparing.{refused_back, taken_done, taken_named}
 use Rattle.preparing.proofs.prepare_rows.Goals as goal
 
-pub hold_rows-requires : goal.hold_rows-requires
-hold_rows-requires c = (search rules, search taken_named)
+pub hold_rows-requires-clause-named : goal.hold_rows-requires-clause-named
+hold_rows-requires-clause-named c =
+    search taken_named
 
 pub returns-in_default : goal.returns-in_default
 returns-in_default c = search taken_done

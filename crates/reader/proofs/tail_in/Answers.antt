@@ -2,11 +2,15 @@ use Prim.Native.Nat.{◌+◌, ◌≤◌}
 use native.Mathlib.Omega.{arith}
 use lib.ListN.{length}
 use Rattle.reader.proofs.Whole.{tail_none, content_room, tail_count, tail_site, tail_is}
-use borrow.Author.Rules.{rules}
 use Rattle.reader.proofs.tail_in.Goals as goal
 
 pub returns-in_default : goal.returns-in_default
 returns-in_default c = search tail_none
+
+pub overflow_add-behind : goal.overflow_add-behind
+overflow_add-behind c =
+    let h : 3 + c.in-Length.length ≤ length c.args.part.now = search content_room in
+    record { fits = omega arith }
 
 pub slice_bounds-count_committers-end : goal.slice_bounds-count_committers-end
 slice_bounds-count_committers-end c = search content_room

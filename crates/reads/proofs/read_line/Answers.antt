@@ -1,3 +1,5 @@
+use Rattle.std.specs.Prelude.{not}
+use Rattle.std.proofs.Common.{ap}
 use borrow.Author.Rules.{rules}
 use Rattle.calls.proofs.Replies.{good_laid, bad_region}
 use Rattle.reads.proofs.Laws.{line_far, line_none, line_done}
@@ -17,11 +19,3 @@ find_line-requires c = search good_laid
 
 pub returns-in_default-find_line : goal.returns-in_default-find_line
 returns-in_default-find_line c = search line_none
-
-pub returns : goal.returns
-returns c =
-    let read = c in
-    let named = read in
-    let known = named in
-    let tested = known in
-    line_done _ _ tested.is_good.ensures tested.if1.false _ _ _ known.known.ensures _ named.n.given.1 _ _ read.find_line.ensures _ read.line-1.given.1 c.four.ensures

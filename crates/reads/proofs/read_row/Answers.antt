@@ -12,8 +12,13 @@ count_rows-requires c = search good_laid
 pub returns-then-place-count_rows : goal.returns-then-place-count_rows
 returns-then-place-count_rows c = search row_far
 
-pub row_at-row-requires : goal.row_at-row-requires
-row_at-row-requires c = (search good_laid, search row_near)
+pub row_at-row-requires-clause-laid : goal.row_at-row-requires-clause-laid
+row_at-row-requires-clause-laid c =
+    search good_laid
+
+pub row_at-row-requires-clause-i_in_bounds : goal.row_at-row-requires-clause-i_in_bounds
+row_at-row-requires-clause-i_in_bounds c =
+    search row_near
 
 pub opens_table-opened-requires : goal.opens_table-opened-requires
 opens_table-opened-requires c = search good_laid

@@ -14,8 +14,13 @@ overflow_sub-held c = search held_room
 pub returns-then-fragment-held : goal.returns-then-fragment-held
 returns-then-fragment-held c = search take_full
 
-pub add-requires : goal.add-requires
-add-requires c = (search good_now, search add_room)
+pub add-requires-clause-good : goal.add-requires-clause-good
+add-requires-clause-good c =
+    search good_now
+
+pub add-requires-clause-fragment_len_bound : goal.add-requires-clause-fragment_len_bound
+add-requires-clause-fragment_len_bound c =
+    search add_room
 
 pub returns : goal.returns
 returns c = search take_done

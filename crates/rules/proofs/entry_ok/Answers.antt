@@ -1,5 +1,4 @@
 use Rattle.rules.proofs.Laws.{entry_name, entry_loose, entry_packed}
-use borrow.Author.Rules.{rules}
 use Rattle.rules.proofs.entry_ok.Goals as goal
 
 pub returns-then-not-is_name : goal.returns-then-not-is_name

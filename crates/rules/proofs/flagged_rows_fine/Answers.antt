@@ -1,23 +1,10 @@
 use native.Mathlib.Omega.{arith}
-use mathlib.Core.Bool.{true}
-use mathlib.Core.Path.{◌≡◌}
-use Prim.Native.Nat.{◌-◌, ◌≤◌}
-use Rattle.model.specs.Basic.{below}
-use Rattle.region.specs.Region.{view}
-use Rattle.rules.specs.Tests.{row_test}
-use Rattle.word.specs.Flags.{Flags}
-use Rattle.model.specs.Store.{rows_in}
-use Rattle.rules.specs.Marks.{seen}
 use Rattle.rules.proofs.Seen.{seen_start, seen_next}
 use Rattle.rules.proofs.Laws.{loop_none, loop_more, rows_upward, rows_stop, rows_end}
-use borrow.Author.Rules.{rules}
 use Rattle.rules.proofs.flagged_rows_fine.Goals as goal
 
 pub loop-i-init : goal.loop-i-init
 loop-i-init c = (omega arith, loop_none _, search seen_start)
-
-pub row_stands-ok-requires : goal.row_stands-ok-requires
-row_stands-ok-requires c = (search rules, (search rules, (search rows_upward, search rules)))
 
 pub loop-i-preserved : goal.loop-i-preserved
 loop-i-preserved c = (omega arith, search loop_more, search seen_next)
@@ -27,3 +14,6 @@ returns-else-ok c = search rows_stop
 
 pub returns : goal.returns
 returns c = search rows_end
+
+pub row_stands-ok-requires-clause-upward : goal.row_stands-ok-requires-clause-upward
+row_stands-ok-requires-clause-upward c = search rows_upward

@@ -1,4 +1,3 @@
-use native.Mathlib.Omega.{arith}
 use mathlib.Core.Bool.{true}
 use mathlib.Core.Path.{◌≡◌}
 use Prim.Native.Nat.{◌-◌, ◌≤◌}
@@ -8,9 +7,6 @@ use Rattle.rules.specs.Tests.{row_test}
 use Rattle.word.specs.Flags.{Flags}
 use Rattle.model.specs.Store.{rows_in}
 use Rattle.rules.specs.Marks.{seen}
-use Rattle.rules.proofs.Seen.{seen_start, seen_next}
-use Rattle.rules.proofs.Laws.{loop_none, loop_more, rows_upward, rows_stop, rows_end}
-use borrow.Author.Rules.{rules}
 use Rattle.rules.proofs.flagged_rows_fine.Given as goal
 
 abbrev pub invariant-loop-i : goal.invariant-loop-i

@@ -1,5 +1,4 @@
 use Rattle.rules.proofs.Laws.{line_name, line_new, line_rest}
-use borrow.Author.Rules.{rules}
 use Rattle.rules.proofs.line_ok.Goals as goal
 
 pub returns-then-place-n : goal.returns-then-place-n

@@ -1,12 +1,9 @@
-use native.Mathlib.Omega.{arith}
 use mathlib.Core.Bool.{true}
 use mathlib.Core.Path.{◌≡◌}
 use Prim.Native.Nat.{◌-◌, ◌≤◌}
 use Rattle.model.specs.Basic.{below}
 use Rattle.region.specs.Region.{view}
 use Rattle.rules.specs.Tests.{line_test}
-use Rattle.rules.proofs.Laws.{loop_none, line_more, lines_stop, lines_end}
-use borrow.Author.Rules.{rules}
 use Rattle.rules.proofs.lines_fine.Given as goal
 
 abbrev pub invariant-loop-i : goal.invariant-loop-i

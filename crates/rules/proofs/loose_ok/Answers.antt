@@ -1,5 +1,4 @@
 use Rattle.rules.proofs.Laws.{loose_target}
-use borrow.Author.Rules.{rules}
 use Rattle.rules.proofs.loose_ok.Goals as goal
 
 pub returns-in-Target : goal.returns-in-Target

@@ -1,9 +1,5 @@
-use mathlib.Core.Path.{◌≡◌}
-use Prim.Native.Nat.{◌-◌, ◌≤◌}
 use native.Mathlib.Omega.{arith}
-use lib.ListN.{length, drop}
 use lib.Dec.{lit<}
-use Rattle.rules.specs.Marks.{mark_on, mark_of}
 use Rattle.rules.proofs.Marks.{mark_room, mark_start, mark_more, mark_end}
 use Rattle.rules.proofs.mark.Goals as goal
 
@@ -14,10 +10,10 @@ pub overflow_mul-acc : goal.overflow_mul-acc
 overflow_mul-acc c = record { fits = omega (arith, mark_room c.loop-i.acc 0 (lit< tt)) }
 
 pub overflow_cast-acc : goal.overflow_cast-acc
-overflow_cast-acc c = omega (arith, c.shared_slice_known-1.given c.loop-i.i)
+overflow_cast-acc c = omega (arith, c.type_inv.name c.loop-i.i)
 
 pub overflow_add-acc : goal.overflow_add-acc
-overflow_add-acc c = record { fits = search (mark_room, c.shared_slice_known-1.given c.loop-i.i) }
+overflow_add-acc c = record { fits = search (mark_room, c.type_inv.name c.loop-i.i) }
 
 pub loop-i-preserved : goal.loop-i-preserved
 loop-i-preserved c = (omega arith, search mark_more)

@@ -1,10 +1,7 @@
 use mathlib.Core.Path.{◌≡◌}
 use Prim.Native.Nat.{◌-◌, ◌≤◌}
-use native.Mathlib.Omega.{arith}
 use lib.ListN.{length, drop}
-use lib.Dec.{lit<}
 use Rattle.rules.specs.Marks.{mark_on, mark_of}
-use Rattle.rules.proofs.Marks.{mark_room, mark_start, mark_more, mark_end}
 use Rattle.rules.proofs.mark.Given as goal
 
 abbrev pub invariant-loop-i : goal.invariant-loop-i

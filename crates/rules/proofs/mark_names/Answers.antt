@@ -1,16 +1,8 @@
-use native.Mathlib.Omega.{arith}
-use borrow.Author.Rules.{rules}
-use Prim.Native.Nat.{◌-◌}
-use Rattle.region.specs.Region.{view}
-use Rattle.rules.proofs.Laws.{placed}
-use Rattle.rules.proofs.Marks.{Marking, marking_start, marking_room, marking_more, marking_end}
+use Rattle.rules.proofs.Marks.{marking_start, marking_room, marking_more, marking_end}
 use Rattle.rules.proofs.mark_names.Goals as goal
 
 pub loop-n-init : goal.loop-n-init
 loop-n-init c = search marking_start
-
-pub name_at-requires : goal.name_at-requires
-name_at-requires c = (search rules, placed _ _ _ c.at.ensures (omega arith))
 
 pub bounds-marks-n : goal.bounds-marks-n
 bounds-marks-n c = search marking_room

@@ -1,9 +1,6 @@
-use native.Mathlib.Omega.{arith}
-use borrow.Author.Rules.{rules}
 use Prim.Native.Nat.{◌-◌}
 use Rattle.region.specs.Region.{view}
-use Rattle.rules.proofs.Laws.{placed}
-use Rattle.rules.proofs.Marks.{Marking, marking_start, marking_room, marking_more, marking_end}
+use Rattle.rules.proofs.Marks.{Marking}
 use Rattle.rules.proofs.mark_names.Given as goal
 
 abbrev pub invariant-loop-n : goal.invariant-loop-n

@@ -1,19 +1,9 @@
 use native.Mathlib.Omega.{arith}
-use mathlib.Core.Bool.{true}
-use mathlib.Core.Path.{◌≡◌}
-use Prim.Native.Nat.{◌-◌, ◌≤◌}
-use Rattle.model.specs.Basic.{below}
-use Rattle.region.specs.Region.{view}
-use Rattle.rules.specs.Tests.{name_test}
 use Rattle.rules.proofs.Laws.{loop_none, loop_more, names_stop, names_end}
-use borrow.Author.Rules.{rules}
 use Rattle.rules.proofs.marked_fine.Goals as goal
 
 pub loop-n-init : goal.loop-n-init
 loop-n-init c = (omega arith, loop_none _)
-
-pub name_ok-ok-requires : goal.name_ok-ok-requires
-name_ok-ok-requires c = (search rules, (search rules, omega arith))
 
 pub loop-n-preserved : goal.loop-n-preserved
 loop-n-preserved c = (omega arith, search loop_more)

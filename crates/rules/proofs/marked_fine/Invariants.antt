@@ -1,12 +1,9 @@
-use native.Mathlib.Omega.{arith}
 use mathlib.Core.Bool.{true}
 use mathlib.Core.Path.{◌≡◌}
 use Prim.Native.Nat.{◌-◌, ◌≤◌}
 use Rattle.model.specs.Basic.{below}
 use Rattle.region.specs.Region.{view}
 use Rattle.rules.specs.Tests.{name_test}
-use Rattle.rules.proofs.Laws.{loop_none, loop_more, names_stop, names_end}
-use borrow.Author.Rules.{rules}
 use Rattle.rules.proofs.marked_fine.Given as goal
 
 abbrev pub invariant-loop-n : goal.invariant-loop-n

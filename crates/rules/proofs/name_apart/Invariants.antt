@@ -1,13 +1,9 @@
-use native.Mathlib.Omega.{arith}
 use mathlib.Core.Bool.{true}
 use mathlib.Core.Path.{◌≡◌}
 use Prim.Native.Nat.{◌-◌, ◌≤◌}
 use Rattle.model.specs.Basic.{below}
 use Rattle.region.specs.Region.{view}
 use Rattle.model.specs.Fine.{apart_names}
-use Rattle.rules.proofs.Laws.{loop_none, loop_done}
-use Rattle.rules.proofs.Marks.{name_more, name_stop}
-use borrow.Author.Rules.{rules}
 use Rattle.rules.proofs.name_apart.Given as goal
 
 abbrev pub invariant-loop-m : goal.invariant-loop-m

@@ -1,10 +1,5 @@
-use native.Mathlib.Omega.{arith}
-use borrow.Author.Rules.{rules}
-use Rattle.rules.proofs.Laws.{placed, name_entry, name_rest}
+use Rattle.rules.proofs.Laws.{name_entry, name_rest}
 use Rattle.rules.proofs.name_ok.Goals as goal
-
-pub entry_ok-requires : goal.entry_ok-requires
-entry_ok-requires c = (search rules, placed _ _ _ c.at.ensures (omega arith))
 
 pub returns-then-not-entry_ok : goal.returns-then-not-entry_ok
 returns-then-not-entry_ok c = search name_entry

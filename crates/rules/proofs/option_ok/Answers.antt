@@ -1,5 +1,4 @@
 use Rattle.rules.proofs.Laws.{option_present}
-use borrow.Author.Rules.{rules}
 use Rattle.rules.proofs.option_ok.Goals as goal
 
 pub returns : goal.returns

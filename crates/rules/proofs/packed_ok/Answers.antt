@@ -1,5 +1,4 @@
 use Rattle.rules.proofs.Laws.{packed_object}
-use borrow.Author.Rules.{rules}
 use Rattle.rules.proofs.packed_ok.Goals as goal
 
 pub returns-else-oid-eq-NULL : goal.returns-else-oid-eq-NULL

@@ -1,5 +1,4 @@
 use Rattle.rules.proofs.Laws.{parent_is}
-use borrow.Author.Rules.{rules}
 use Rattle.rules.proofs.parent_ok.Goals as goal
 
 pub returns-in-Parent : goal.returns-in-Parent

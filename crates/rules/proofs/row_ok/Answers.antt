@@ -1,5 +1,4 @@
-use Rattle.rules.proofs.Laws.{row_name, row_deref, row_previous, row_new, row_parent, upward_more, row_rest}
-use borrow.Author.Rules.{rules}
+use Rattle.rules.proofs.Laws.{row_name, row_deref, row_previous, row_new, row_parent, row_rest}
 use Rattle.rules.proofs.row_ok.Goals as goal
 
 pub returns-then-place-count : goal.returns-then-place-count
@@ -16,9 +15,6 @@ returns-then-not-option_ok-2 c = search row_new
 
 pub returns-then-not-parent_ok : goal.returns-then-not-parent_ok
 returns-then-not-parent_ok c = search row_parent
-
-pub count_ancestors-requires : goal.count_ancestors-requires
-count_ancestors-requires c = (search rules, (search rules, search upward_more))
 
 pub returns : goal.returns
 returns c = search row_rest

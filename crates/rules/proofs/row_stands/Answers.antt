@@ -1,5 +1,4 @@
 use Rattle.rules.proofs.Seen.{seen_not, seen_room, seen_twice, seen_once}
-use borrow.Author.Rules.{rules}
 use Rattle.rules.proofs.row_stands.Goals as goal
 
 pub returns-then-not-row_ok : goal.returns-then-not-row_ok

@@ -1,5 +1,4 @@
 use Rattle.rules.proofs.Laws.{target_object, target_link}
-use borrow.Author.Rules.{rules}
 use Rattle.rules.proofs.target_ok.Goals as goal
 
 pub returns-in-Object : goal.returns-in-Object

@@ -8,8 +8,9 @@ use Rattle.splits.proofs.add_edits.Goals as goal
 pub loop-i-init : goal.loop-i-init
 loop-i-init c = search added_start
 
-pub add_row-requires : goal.add_row-requires
-add_row-requires c = (search rules, (search rules, (omega arith, search fits_edit)))
+pub add_row-requires-clause-fits_row : goal.add_row-requires-clause-fits_row
+add_row-requires-clause-fits_row c =
+    search fits_edit
 
 pub loop-i-preserved : goal.loop-i-preserved
 loop-i-preserved c = search added_more

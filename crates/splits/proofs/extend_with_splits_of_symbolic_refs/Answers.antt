@@ -3,17 +3,15 @@ use borrow.Author.Rules.{rules}
 use Rattle.splits.proofs.Splits.{rows_many, Ahead, ahead_start, ahead_more, taken_cycle, taken_passed}
 use Rattle.splits.proofs.extend_with_splits_of_symbolic_refs.Goals as goal
 
-pub split_first-requires : goal.split_first-requires
-split_first-requires c = (search rules, (search rules, (search rules, search rows_many)))
+pub split_first-requires-clause-region_len : goal.split_first-requires-clause-region_len
+split_first-requires-clause-region_len c =
+    search rows_many
 
 pub loop-left-init : goal.loop-left-init
 loop-left-init c = search ahead_start
 
 pub returns-then-end-first-gt-LIMIT : goal.returns-then-end-first-gt-LIMIT
 returns-then-end-first-gt-LIMIT c = absurd (omega arith)
-
-pub split_round-requires : goal.split_round-requires
-split_round-requires c = (search rules, (search rules, (search rules, search rules)))
 
 pub loop-left-preserved : goal.loop-left-preserved
 loop-left-preserved c = search ahead_more

@@ -12,8 +12,9 @@ use Rattle.splits.proofs.least_repeated.Goals as goal
 pub loop-i-init : goal.loop-i-init
 loop-i-init c = (search least_start, search rules, search behind_none)
 
-pub repeats-again-requires : goal.repeats-again-requires
-repeats-again-requires c = (search rules, (search rules, search flags_at))
+pub repeats-again-requires-clause-flags : goal.repeats-again-requires-clause-flags
+repeats-again-requires-clause-flags c =
+    search flags_at
 
 pub loop-i-preserved-then-again : goal.loop-i-preserved-then-again
 loop-i-preserved-then-again c = (search least_more, search rules, search flags_of)

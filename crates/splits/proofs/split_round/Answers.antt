@@ -9,9 +9,6 @@ use Rattle.splits.proofs.split_round.Goals as goal
 pub loop-i-init : goal.loop-i-init
 loop-i-init c = search round_start
 
-pub split_row-requires : goal.split_row-requires
-split_row-requires c = (search rules, (search rules, (omega arith, omega arith)))
-
 pub loop-i-preserved : goal.loop-i-preserved
 loop-i-preserved c = search round_more
 

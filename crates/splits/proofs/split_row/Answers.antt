@@ -3,31 +3,19 @@ use Rattle.splits.proofs.Table.{step_none, step_split, room_left}
 use Rattle.splits.proofs.Fits.{fits_kept}
 use Rattle.splits.proofs.split_row.Goals as goal
 
-pub put_row_at-requires : goal.put_row_at-requires
-put_row_at-requires c = (search rules, (search rules, search fits_kept))
+pub put_row_at-requires-clause-fits_row : goal.put_row_at-requires-clause-fits_row
+put_row_at-requires-clause-fits_row c =
+    search fits_kept
 
 pub returns-in_default : goal.returns-in_default
 returns-in_default c = search step_none
 
-pub add_row-requires : goal.add_row-requires
-add_row-requires c =
-    let to = c in
-    let put = to in
-    let settle = put in
-    let row = settle in
-    let s = row in (
-      search rules,
-      room_left _ _ _ s.args.follow _ _ _ s.requires.1.0 row.row_at_lem.ensures settle.follow_row-to.ensures settle.settle.ensures
-          put.put-row-at.ensures _ _ s.requires.0 s.requires.1.1.0 s.requires.1.1.1 to.to-1.given.1 c.child.ensures,
-    )
+pub add_row-requires-clause-fits_row : goal.add_row-requires-clause-fits_row
+add_row-requires-clause-fits_row c =
+    (room_left _ _ _ c.args.follow _ _ _ c.requires.region_value c.row_at-row.ensures c.follow_row-to.ensures c.settle-kept.ensures
+    c.put_row_at.ensures _ _ c.requires.laid c.requires.i_in_bounds c.requires.region_len_bound c.in-Name.is c.child.ensures).1.1
 
 pub returns : goal.returns
 returns c =
-    let add = c in
-    let to = add in
-    let put = to in
-    let settle = put in
-    let row = settle in
-    let s = row in
-    step_split _ _ _ s.args.follow _ _ _ s.requires.1.0 row.row_at_lem.ensures settle.follow_row-to.ensures settle.settle.ensures
-    put.put-row-at.ensures _ _ _ to.to.given.1 add.child.ensures add.add_row.ensures
+    step_split _ _ _ c.args.follow _ _ _ c.requires.region_value c.row_at-row.ensures c.follow_row-to.ensures c.settle-kept.ensures
+    c.put_row_at.ensures _ _ _ c.in-Name.is c.child.ensures c.add_row.ensures

@@ -11,20 +11,18 @@ use Rattle.steps.proofs.free_names.Goals as goal
 pub loop-n-init : goal.loop-n-init
 loop-n-init c = (omega arith, refl, search freed_none)
 
-pub lock_at-requires : goal.lock_at-requires
-lock_at-requires c = (search rules, search freed_below)
+pub lock_at-requires-clause-n_bound : goal.lock_at-requires-clause-n_bound
+lock_at-requires-clause-n_bound c =
+    search freed_below
 
-pub put_lock_at-requires : goal.put_lock_at-requires
-put_lock_at-requires c = (search rules, search freed_below)
+pub put_lock_at-requires-clause-n_bound : goal.put_lock_at-requires-clause-n_bound
+put_lock_at-requires-clause-n_bound c =
+    search freed_below
 
 pub loop-n-preserved : goal.loop-n-preserved
 loop-n-preserved c =
-    let put = c in
-    let freed = put in
-    let read = freed in
-    let at = read in
-    let inv = at.loop-n.invariant in
-    (omega arith, search rules, freed_more _ _ _ _ _ _ _ inv.2 at.at.ensures read.lock_at.ensures freed.freed-lock.ensures put.put_lock_at.ensures)
+    let inv = c.loop-n.invariant in
+    (omega arith, search rules, freed_more _ _ _ _ _ _ _ inv.2 c.at-at.ensures c.lock_at.ensures c.freed_lock-lock.ensures c.put_lock_at.ensures)
 
 pub returns : goal.returns
 returns c = search freed_end

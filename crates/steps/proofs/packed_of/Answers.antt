@@ -16,6 +16,3 @@ returns-else-number-ne0 c = search packed_none
 
 pub returns-else-not-packable : goal.returns-else-not-packable
 returns-else-not-packable c = search packed_object
-
-pub returns-in_default : goal.returns-in_default
-returns-in_default c = packed_other _ _ c.args.number c.in_default.rest.0.1 c.in_default.rest.1

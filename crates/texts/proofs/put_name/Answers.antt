@@ -11,8 +11,7 @@ slice_bounds-copy-end c = search name_part_lem
 
 pub shape_of-rest : goal.shape_of-rest
 shape_of-rest c =
-    let start = c in
-    c.rest-1.given.1 ∙ name_length start.args.rest.now start.args.name.now
+    c.rest-1.given.1 ∙ name_length c.args.rest.now c.args.name.now
 
 pub returns : goal.returns
 returns c = search name_done

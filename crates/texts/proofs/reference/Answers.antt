@@ -1,3 +1,5 @@
+use Rattle.std.specs.Prelude.{not}
+use Rattle.std.proofs.Common.{ap}
 use borrow.Author.Rules.{rules}
 use Rattle.texts.proofs.Lines.{ref_short, ref_no_digits, ref_no_zeros, ref_no_space, ref_no_name, ref_head, ref_digits, ref_done}
 use Rattle.texts.proofs.reference.Goals as goal
@@ -19,6 +21,9 @@ returns-then-line-ne-SPACE c = search ref_no_space
 
 pub returns-then-not-is_name : goal.returns-then-not-is_name
 returns-then-not-is_name c = search ref_no_name
+
+pub number-requires : goal.number-requires
+number-requires c = ref_digits c.args.line.now _ c.are_digits.ensures (ap not c.if-not-are_digits.false)
 
 pub returns : goal.returns
 returns c = search ref_done

@@ -1,4 +1,3 @@
-use borrow.Author.Rules.{rules}
 use Rattle.turns.proofs.Judges.{free_same, free_other}
 use Rattle.turns.proofs.free_for.Goals as goal
 

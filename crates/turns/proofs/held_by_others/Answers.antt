@@ -1,4 +1,3 @@
-use borrow.Author.Rules.{rules}
 use Rattle.turns.proofs.Turns.{held_none, held_at}
 use Rattle.turns.proofs.held_by_others.Goals as goal
 

@@ -1,4 +1,3 @@
-use borrow.Author.Rules.{rules}
 use Rattle.turns.proofs.Judges.{judge_update_is, judge_delete_is}
 use Rattle.turns.proofs.judge_change.Goals as goal
 

@@ -1,4 +1,3 @@
-use borrow.Author.Rules.{rules}
 use Rattle.turns.proofs.Judges.{delete_absent, delete_not, delete_match_absent, delete_match, delete_may}
 use Rattle.turns.proofs.judge_delete.Goals as goal
 

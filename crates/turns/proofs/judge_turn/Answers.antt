@@ -1,4 +1,3 @@
-use borrow.Author.Rules.{rules}
 use Rattle.turns.proofs.Turns.{turn_nested, turn_held, turn_judged}
 use Rattle.turns.proofs.judge_turn.Goals as goal
 

@@ -1,4 +1,3 @@
-use borrow.Author.Rules.{rules}
 use Rattle.turns.proofs.Judges.{update_absent, update_not, update_match_absent, update_match, update_may}
 use Rattle.turns.proofs.judge_update.Goals as goal
 

@@ -1,4 +1,3 @@
-use borrow.Author.Rules.{rules}
 use Rattle.turns.proofs.Turns.{turn_refused, turn_passed}
 use Rattle.turns.proofs.lock_ref_and_apply_change.Goals as goal
 

@@ -1,4 +1,3 @@
-use borrow.Author.Rules.{rules}
 use Rattle.turns.proofs.Judges.{may_absent, may_present}
 use Rattle.turns.proofs.may_match.Goals as goal
 

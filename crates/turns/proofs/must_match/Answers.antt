@@ -1,4 +1,3 @@
-use borrow.Author.Rules.{rules}
 use Rattle.turns.proofs.Judges.{match_same, match_other}
 use Rattle.turns.proofs.must_match.Goals as goal
 

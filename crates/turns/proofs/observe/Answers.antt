@@ -1,4 +1,3 @@
-use borrow.Author.Rules.{rules}
 use Rattle.turns.proofs.Judges.{observed_is}
 use Rattle.turns.proofs.observe.Goals as goal
 

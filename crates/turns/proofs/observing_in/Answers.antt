@@ -1,4 +1,3 @@
-use borrow.Author.Rules.{rules}
 use Rattle.turns.proofs.Judges.{observing_update, observing_delete}
 use Rattle.turns.proofs.observing_in.Goals as goal
 

@@ -1,15 +1,9 @@
-use borrow.Author.Rules.{rules}
 use Rattle.turns.proofs.Turned.{kept_fits, kept_put}
 use Rattle.turns.proofs.put_existing.Goals as goal
 
-pub put_row_at-requires : goal.put_row_at-requires
-put_row_at-requires c = (search rules, (search rules, search kept_fits))
+pub put_row_at-requires-clause-fits_row : goal.put_row_at-requires-clause-fits_row
+put_row_at-requires-clause-fits_row c = search kept_fits
 
 pub returns : goal.returns
 returns c =
-    let put = c in
-    let observe = put in
-    let value = observe in
-    let row = value in
-    let s = row in
-    kept_put _ s.args.i s.args.opened _ _ _ row.row_at_lem.ensures value.value_of_lem.ensures observe.observe.ensures _ put.put_row_at.ensures
+    kept_put _ c.args.i c.args.opened _ _ _ c.row_at-row.ensures c.value_of-found.ensures c.observe-kept.ensures _ c.put_row_at.ensures

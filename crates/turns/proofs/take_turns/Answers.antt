@@ -1,14 +1,8 @@
-use Prim.Native.Nat.{◌-◌}
-use native.Mathlib.Omega.{arith}
-use borrow.Author.Rules.{rules}
-use Rattle.turns.proofs.Turns.{Far, far_start, far_more, far_stop, far_end}
+use Rattle.turns.proofs.Turns.{far_start, far_more, far_stop, far_end}
 use Rattle.turns.proofs.take_turns.Goals as goal
 
 pub loop-i-init : goal.loop-i-init
 loop-i-init c = search far_start
-
-pub lock_ref_and_apply_change-judged-requires : goal.lock_ref_and_apply_change-judged-requires
-lock_ref_and_apply_change-judged-requires c = (search rules, (omega arith, search rules))
 
 pub returns-in_default : goal.returns-in_default
 returns-in_default c = search far_stop

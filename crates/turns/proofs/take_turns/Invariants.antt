@@ -1,7 +1,5 @@
 use Prim.Native.Nat.{◌-◌}
-use native.Mathlib.Omega.{arith}
-use borrow.Author.Rules.{rules}
-use Rattle.turns.proofs.Turns.{Far, far_start, far_more, far_stop, far_end}
+use Rattle.turns.proofs.Turns.{Far}
 use Rattle.turns.proofs.take_turns.Given as goal
 
 abbrev pub invariant-loop-i : goal.invariant-loop-i

@@ -23,13 +23,5 @@ slice_bounds-copy-end c = search copy_room
 pub put_at-requires : goal.put_at-requires
 put_at-requires c = search (count_room, c.region-1.given.1)
 
-pub shape_of-region : goal.shape_of-region
-shape_of-region c =
-    let counted = c in
-    let start = counted in
-    c.put_at.auto.0
-    ∙ c.region-1.given.1
-    ∙ length-set start.args.region.now (13 + counted.count_names-n.result * 65) (length start.args.name.now)
-
 pub returns : goal.returns
 returns c = search (add_name_is, c.shared_slice_known-1.given)

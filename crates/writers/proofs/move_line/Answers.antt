@@ -5,21 +5,16 @@ use Rattle.writers.proofs.move_line.Goals as goal
 
 pub returns-then-eq : goal.returns-then-eq
 returns-then-eq c =
-    let eq = c in
-    let line = eq in
-    let s = line in
-    line_gone _ _ _ _ line.line_at.result _ s.requires.0 line.line_at.ensures eq.eq.ensures c.if-eq.true
+    line_gone _ _ _ _ c.line_at-line.result _ c.requires.laid c.line_at-line.ensures c.eq.ensures c.if-eq.true
 
-pub put_line_at-requires : goal.put_line_at-requires
-put_line_at-requires c =
-    let line = c in
-    let s = line in
-    (s.requires.0, (omega arith, fits_line _ s.requires.0 _ _ s.requires.1.0 line.line_at-line.ensures))
+pub put_line_at-requires-clause-laid : goal.put_line_at-requires-clause-laid
+put_line_at-requires-clause-laid c =
+    c.requires.laid
+
+pub put_line_at-requires-clause-fits_line : goal.put_line_at-requires-clause-fits_line
+put_line_at-requires-clause-fits_line c =
+    fits_line _ c.requires.laid _ _ c.requires.i_in_bounds.0 c.line_at-line.ensures
 
 pub returns : goal.returns
 returns c =
-    let put = c in
-    let else = put in
-    let eq = else in
-    let line = eq in
-    line_kept _ _ _ _ _ line.line_at.result _ line.line_at.ensures eq.eq.ensures else.if1.false put.put_line_at.ensures
+    line_kept _ _ _ _ _ c.line_at-line.result _ c.line_at-line.ensures c.eq.ensures c.if-eq.false c.put_line_at.ensures

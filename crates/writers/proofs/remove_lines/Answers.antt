@@ -7,17 +7,17 @@ use Rattle.writers.proofs.remove_lines.Goals as goal
 pub loop-i-init : goal.loop-i-init
 loop-i-init c = search far_start
 
-pub move_line-j-requires : goal.move_line-j-requires
-move_line-j-requires c = (search rules, (omega arith, omega arith))
+pub move_line-j-requires-clause-i_in_bounds : goal.move_line-j-requires-clause-i_in_bounds
+move_line-j-requires-clause-i_in_bounds c =
+    (omega arith, omega arith)
 
 pub loop-i-preserved : goal.loop-i-preserved
 loop-i-preserved c = search far_more
 
-pub keep_lines-requires : goal.keep_lines-requires
-keep_lines-requires c = (search rules, search far_room)
+pub keep_lines-requires-clause-j_in_bounds : goal.keep_lines-requires-clause-j_in_bounds
+keep_lines-requires-clause-j_in_bounds c =
+    search far_room
 
 pub returns : goal.returns
 returns c =
-    let keep = c in
-    let after = keep in
-    far_end _ _ _ _ _ _ _ after.loop-i.invariant after.loop-test.false keep.keep_lines.ensures
+    far_end _ _ _ _ _ _ _ c.loop-i.invariant c.loop-i-test.false c.keep_lines.ensures

@@ -2,14 +2,16 @@ use Rattle.writes.proofs.Turns.{line_told, log_told, gone_named, at_line, at_log
 use borrow.Author.Rules.{rules}
 use Rattle.writes.proofs.next_first.Goals as goal
 
-pub next_line-requires : goal.next_line-requires
-next_line-requires c = (search rules, (search rules, search line_told))
+pub next_line-requires-clause-i_value : goal.next_line-requires-clause-i_value
+next_line-requires-clause-i_value c =
+    search line_told
 
 pub returns-then-k-rows : goal.returns-then-k-rows
 returns-then-k-rows c = search at_line
 
-pub next_log-requires : goal.next_log-requires
-next_log-requires c = (search rules, (search rules, search log_told))
+pub next_log-requires-clause-i_value : goal.next_log-requires-clause-i_value
+next_log-requires-clause-i_value c =
+    search log_told
 
 pub returns-then-j-rows : goal.returns-then-j-rows
 returns-then-j-rows c = search at_log

@@ -21,7 +21,7 @@ overflow_add-end c = let short : length c.bytes_of-bytes.result.now ≤ 64 = sea
 pub overflow_add-end-in-loop-i : goal.overflow_add-end-in-loop-i
 overflow_add-end-in-loop-i c =
     let loop = c.loop-i in
-    let room : loop.at-name + (42 + length c.bytes_of-bytes.result.now) ≤ length loop.buffer = search write_room in omega arith
+    let room : loop.at + (42 + length c.bytes_of-bytes.result.now) ≤ length loop.buffer = search write_room in omega arith
 
 pub slice_bounds-write_packed_ref-end : goal.slice_bounds-write_packed_ref-end
 slice_bounds-write_packed_ref-end c = search write_room

@@ -15,8 +15,9 @@ loop-left-init c = search count_start
 pub slice_bounds-held_with-end : goal.slice_bounds-held_with-end
 slice_bounds-held_with-end c = search next_line
 
-pub held_with-more-requires : goal.held_with-more-requires
-held_with-more-requires c = (search rules, c.loop-left.invariant.few)
+pub held_with-more-requires-clause-held_bound : goal.held_with-more-requires-clause-held_bound
+held_with-more-requires-clause-held_bound c =
+    c.loop-left.invariant.few
 
 pub returns-then-more-gt-LIMIT : goal.returns-then-more-gt-LIMIT
 returns-then-more-gt-LIMIT c = search count_stop

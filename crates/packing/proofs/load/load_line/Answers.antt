@@ -11,11 +11,13 @@ slice_bounds-number_of-count c = search line_reaches
 pub slice_bounds-number_of-start : goal.slice_bounds-number_of-start
 slice_bounds-number_of-start c = search line_reaches
 
-pub number_of-name-requires : goal.number_of-name-requires
-number_of-name-requires c = (search rules, search load_numbers)
+pub number_of-name-requires-clause-numbers : goal.number_of-name-requires-clause-numbers
+number_of-name-requires-clause-numbers c =
+    search load_numbers
 
-pub put_packed_at-requires : goal.put_packed_at-requires
-put_packed_at-requires c = (search rules, (search rules, search load_fits))
+pub put_packed_at-requires-clause-fits_packed : goal.put_packed_at-requires-clause-fits_packed
+put_packed_at-requires-clause-fits_packed c =
+    search load_fits
 
 pub returns : goal.returns
 returns c = search load_done

@@ -14,10 +14,13 @@ loop-left-init c = search load_start
 pub slice_bounds-load_line-end : goal.slice_bounds-load_line-end
 slice_bounds-load_line-end c = search next_line
 
-pub load_line-requires : goal.load_line-requires
-load_line-requires c =
-    let l = c in
-    (l.loop-left.invariant.laid, load_line _ _ _ _ _ _ l.loop-left.invariant c.loop-left-test.true _ c.up_to_lem.ensures)
+pub load_line-requires-clause-laid : goal.load_line-requires-clause-laid
+load_line-requires-clause-laid c =
+    c.loop-left.invariant.laid
+
+pub load_line-requires-clause-line_loads : goal.load_line-requires-clause-line_loads
+load_line-requires-clause-line_loads c =
+    load_line _ _ _ _ _ _ c.loop-left.invariant c.loop-left-test.true _ c.up_to-length.ensures
 
 pub overflow_add-rest : goal.overflow_add-rest
 overflow_add-rest c = omega (arith, byte_within 10 c.loop-left.rest.now)
@@ -32,7 +35,7 @@ pub loop-left-preserved : goal.loop-left-preserved
 loop-left-preserved c = search load_on
 
 pub shape_of-region : goal.shape_of-region
-shape_of-region c = c.loop-left.invariant.laid.size ∙ sym c.requires.0.size
+shape_of-region c = c.loop-left.invariant.laid.size ∙ sym c.requires.laid.size
 
 pub returns : goal.returns
 returns c = search load_end

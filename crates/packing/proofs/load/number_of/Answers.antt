@@ -5,8 +5,9 @@ use Rattle.packing.proofs.load.number_of.Goals as goal
 pub returns-in-Name : goal.returns-in-Name
 returns-in-Name c = search number_known
 
-pub add_name-requires : goal.add_name-requires
-add_name-requires c = (search rules, (search number_room, search rules))
+pub add_name-requires-clause-region_bound : goal.add_name-requires-clause-region_bound
+add_name-requires-clause-region_bound c =
+    search number_room
 
 pub at-requires : goal.at-requires
 at-requires c = search number_at

@@ -9,5 +9,9 @@ returns-then-length-rest c = search stops
 pub slice_bounds-line_said-end : goal.slice_bounds-line_said-end
 slice_bounds-line_said-end c = search line_part
 
+pub past-requires : goal.past-requires
+past-requires c =
+    roomy c.args.text.now c.args.place c.requires _ c.up_to-length.ensures (omega arith)
+
 pub returns : goal.returns
 returns c = search moves
