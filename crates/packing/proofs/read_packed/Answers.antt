@@ -35,15 +35,12 @@ load_lines-requires-clause-laid c =
 
 pub load_lines-requires-clause-lines_in_bounds : goal.load_lines-requires-clause-lines_in_bounds
 load_lines-requires-clause-lines_in_bounds c =
-    (
-        search checked_lines,
-        read_loads _ _ _ c.is_good.ensures (ap not c.if-not-is_good.false) _ c.mode_number.ensures _ c.check-checked.ensures c.if-mode_number-ne0.false
-            _ c.has_room.ensures (ap not c.if-not-has_room.false) _ c.forget_packed.ensures,
-      )
+    search checked_lines
 
 pub load_lines-requires-clause-lines_load : goal.load_lines-requires-clause-lines_load
 load_lines-requires-clause-lines_load c =
-    
+    read_loads _ _ _ c.is_good.ensures (ap not c.if-not-is_good.false) _ c.mode_number.ensures _ c.check-checked.ensures c.if-mode_number-ne0.false
+    _ c.has_room.ensures (ap not c.if-not-has_room.false) _ c.forget_packed.ensures
 
 pub returns-in-Malformed : goal.returns-in-Malformed
 returns-in-Malformed c = search read_malformed

@@ -19,3 +19,8 @@ find_line-requires c = search good_laid
 
 pub returns-in_default-find_line : goal.returns-in_default-find_line
 returns-in_default-find_line c = search line_none
+
+pub returns : goal.returns
+returns c =
+    line_done _ _ c.is_good.ensures (ap not c.if-not-is_good.false) _ _ _ c.known.ensures _ c.in-Name.is _ _ c.find_line.ensures _
+    c.in-Line.is c.four.ensures
