@@ -15,8 +15,7 @@ ghost use Rattle.receiving.specs.Fragments.ReceiverCall.{fresh_receiver, take_fr
 use answers::Answer;
 
 // Makes an empty store, whatever the region held.
-#[unsafe(no_mangle)]
-pub extern "C" fn dehlbazin_start(region: &mut [u8], setting: u64, answer: &mut [u8]) -> u32
+pub fn dehlbazin_start(region: &mut [u8], setting: u64, answer: &mut [u8]) -> u32
     ensures { Did (call (start setting) region.old answer.old) result answer.new (region.new ∷ []) }
 {
     if answer.len() != Answer::SIZE {
@@ -27,12 +26,7 @@ pub extern "C" fn dehlbazin_start(region: &mut [u8], setting: u64, answer: &mut 
 }
 
 // The same with the log setting of a settings record, of version 1 or 2.
-#[unsafe(no_mangle)]
-pub extern "C" fn dehlbazin_start_with_settings(
-    region: &mut [u8],
-    bytes: &[u8],
-    answer: &mut [u8],
-) -> u32
+pub fn dehlbazin_start_with_settings(region: &mut [u8], bytes: &[u8], answer: &mut [u8]) -> u32
     ensures { Did (start_call bytes.now region.old answer.old) result answer.new (region.new ∷ []) }
 {
     if answer.len() != Answer::SIZE {
@@ -43,8 +37,7 @@ pub extern "C" fn dehlbazin_start_with_settings(
 }
 
 // Adds a name, or finds it: its number.
-#[unsafe(no_mangle)]
-pub extern "C" fn dehlbazin_add_name(region: &mut [u8], name: &[u8], answer: &mut [u8]) -> u32
+pub fn dehlbazin_add_name(region: &mut [u8], name: &[u8], answer: &mut [u8]) -> u32
     ensures { Did (call (add_name name.now) region.old answer.old) result answer.new (region.new ∷ []) }
 {
     if answer.len() != Answer::SIZE {
@@ -55,8 +48,7 @@ pub extern "C" fn dehlbazin_add_name(region: &mut [u8], name: &[u8], answer: &mu
 }
 
 // Where the bytes of a name stand in the region: offset and length.
-#[unsafe(no_mangle)]
-pub extern "C" fn dehlbazin_name_bytes(region: &[u8], name: u64, answer: &mut [u8]) -> u32
+pub fn dehlbazin_name_bytes(region: &[u8], name: u64, answer: &mut [u8]) -> u32
     ensures { Did (call (name_bytes name) region.now answer.old) result answer.new (region.now ∷ []) }
 {
     if answer.len() != Answer::SIZE {
@@ -67,8 +59,7 @@ pub extern "C" fn dehlbazin_name_bytes(region: &[u8], name: u64, answer: &mut [u
 }
 
 // Sets the loose value of a name.
-#[unsafe(no_mangle)]
-pub extern "C" fn dehlbazin_load_loose(
+pub fn dehlbazin_load_loose(
     region: &mut [u8],
     name: u64,
     kind: u64,
@@ -85,8 +76,7 @@ pub extern "C" fn dehlbazin_load_loose(
 }
 
 // Sets the packed value of a name.
-#[unsafe(no_mangle)]
-pub extern "C" fn dehlbazin_load_packed(
+pub fn dehlbazin_load_packed(
     region: &mut [u8],
     name: u64,
     kind: u64,
@@ -103,13 +93,7 @@ pub extern "C" fn dehlbazin_load_packed(
 }
 
 // Places a foreign lock on a name, kind 0, or on the packed table, kind 1, beside which the number is not looked at.
-#[unsafe(no_mangle)]
-pub extern "C" fn dehlbazin_place_lock(
-    region: &mut [u8],
-    kind: u64,
-    number: u64,
-    answer: &mut [u8],
-) -> u32
+pub fn dehlbazin_place_lock(region: &mut [u8], kind: u64, number: u64, answer: &mut [u8]) -> u32
     ensures { Did (call (place_lock kind number) region.old answer.old) result answer.new (region.new ∷ []) }
 {
     if answer.len() != Answer::SIZE {
@@ -120,13 +104,7 @@ pub extern "C" fn dehlbazin_place_lock(
 }
 
 // Lifts it.
-#[unsafe(no_mangle)]
-pub extern "C" fn dehlbazin_lift_lock(
-    region: &mut [u8],
-    kind: u64,
-    number: u64,
-    answer: &mut [u8],
-) -> u32
+pub fn dehlbazin_lift_lock(region: &mut [u8], kind: u64, number: u64, answer: &mut [u8]) -> u32
     ensures { Did (call (lift_lock kind number) region.old answer.old) result answer.new (region.new ∷ []) }
 {
     if answer.len() != Answer::SIZE {
@@ -137,13 +115,7 @@ pub extern "C" fn dehlbazin_lift_lock(
 }
 
 // Judges a list of edits and takes their locks: how many rows the transaction has.
-#[unsafe(no_mangle)]
-pub extern "C" fn dehlbazin_prepare(
-    region: &mut [u8],
-    list: &[u8],
-    mode: u64,
-    answer: &mut [u8],
-) -> u32
+pub fn dehlbazin_prepare(region: &mut [u8], list: &[u8], mode: u64, answer: &mut [u8]) -> u32
     ensures { Did (call (prepare list.now mode) region.old answer.old) result answer.new (region.new ∷ []) }
 {
     if answer.len() != Answer::SIZE {
@@ -154,13 +126,7 @@ pub extern "C" fn dehlbazin_prepare(
 }
 
 // Makes the writes of the prepared transaction in their order, as many as the allowance lets it: how many it made.
-#[unsafe(no_mangle)]
-pub extern "C" fn dehlbazin_commit(
-    region: &mut [u8],
-    committer: u64,
-    allowance: u64,
-    answer: &mut [u8],
-) -> u32
+pub fn dehlbazin_commit(region: &mut [u8], committer: u64, allowance: u64, answer: &mut [u8]) -> u32
     ensures { Did (call (commit committer allowance) region.old answer.old) result answer.new (region.new ∷ []) }
 {
     if answer.len() != Answer::SIZE {
@@ -171,8 +137,7 @@ pub extern "C" fn dehlbazin_commit(
 }
 
 // Forgets the prepared transaction and frees its locks: how many rows it had.
-#[unsafe(no_mangle)]
-pub extern "C" fn dehlbazin_rollback(region: &mut [u8], answer: &mut [u8]) -> u32
+pub fn dehlbazin_rollback(region: &mut [u8], answer: &mut [u8]) -> u32
     ensures { Did (call rollback region.old answer.old) result answer.new (region.new ∷ []) }
 {
     if answer.len() != Answer::SIZE {
@@ -183,8 +148,7 @@ pub extern "C" fn dehlbazin_rollback(region: &mut [u8], answer: &mut [u8]) -> u3
 }
 
 // What a name reads, and where that is found.
-#[unsafe(no_mangle)]
-pub extern "C" fn dehlbazin_read_name(region: &[u8], name: u64, answer: &mut [u8]) -> u32
+pub fn dehlbazin_read_name(region: &[u8], name: u64, answer: &mut [u8]) -> u32
     ensures { Did (call (read_name name) region.now answer.old) result answer.new (region.now ∷ []) }
 {
     if answer.len() != Answer::SIZE {
@@ -195,13 +159,7 @@ pub extern "C" fn dehlbazin_read_name(region: &[u8], name: u64, answer: &mut [u8
 }
 
 // A line of a name's log, by its place among them.
-#[unsafe(no_mangle)]
-pub extern "C" fn dehlbazin_read_line(
-    region: &[u8],
-    name: u64,
-    place: u64,
-    answer: &mut [u8],
-) -> u32
+pub fn dehlbazin_read_line(region: &[u8], name: u64, place: u64, answer: &mut [u8]) -> u32
     ensures { Did (call (read_line name place) region.now answer.old) result answer.new (region.now ∷ []) }
 {
     if answer.len() != Answer::SIZE {
@@ -212,8 +170,7 @@ pub extern "C" fn dehlbazin_read_line(
 }
 
 // A row of the prepared transaction, and where its existing value was found.
-#[unsafe(no_mangle)]
-pub extern "C" fn dehlbazin_read_row(region: &[u8], place: u64, answer: &mut [u8]) -> u32
+pub fn dehlbazin_read_row(region: &[u8], place: u64, answer: &mut [u8]) -> u32
     ensures { Did (call (read_row place) region.now answer.old) result answer.new (region.now ∷ []) }
 {
     if answer.len() != Answer::SIZE {
@@ -226,8 +183,7 @@ pub extern "C" fn dehlbazin_read_row(region: &[u8], place: u64, answer: &mut [u8
 // ---- the packed table as text
 
 // Writes it at the beginning of a buffer: how long it is.
-#[unsafe(no_mangle)]
-pub extern "C" fn dehlbazin_write_packed(region: &[u8], buffer: &mut [u8], answer: &mut [u8]) -> u32
+pub fn dehlbazin_write_packed(region: &[u8], buffer: &mut [u8], answer: &mut [u8]) -> u32
     ensures { Did (write_call region.now buffer.old answer.old) result answer.new (region.now ∷ buffer.new ∷ []) }
 {
     if answer.len() != Answer::SIZE {
@@ -238,8 +194,7 @@ pub extern "C" fn dehlbazin_write_packed(region: &[u8], buffer: &mut [u8], answe
 }
 
 // Puts what a text says in the place of all packed values: how many refs it has.
-#[unsafe(no_mangle)]
-pub extern "C" fn dehlbazin_read_packed(region: &mut [u8], text: &[u8], answer: &mut [u8]) -> u32
+pub fn dehlbazin_read_packed(region: &mut [u8], text: &[u8], answer: &mut [u8]) -> u32
     ensures { Did (call (read_packed text.now) region.old answer.old) result answer.new (region.new ∷ []) }
 {
     if answer.len() != Answer::SIZE {
@@ -252,8 +207,7 @@ pub extern "C" fn dehlbazin_read_packed(region: &mut [u8], text: &[u8], answer: 
 // ---- settings records, with no region
 
 // What a settings record says, to a reader that knows versions up to the one given: log setting, usual mode, site, how many committers.
-#[unsafe(no_mangle)]
-pub extern "C" fn dehlbazin_read_settings(bytes: &[u8], known: u64, answer: &mut [u8]) -> u32
+pub fn dehlbazin_read_settings(bytes: &[u8], known: u64, answer: &mut [u8]) -> u32
     ensures { Did (record_call (read_settings known) bytes.now answer.old) result answer.new (bytes.now ∷ []) }
 {
     if answer.len() != Answer::SIZE {
@@ -264,13 +218,7 @@ pub extern "C" fn dehlbazin_read_settings(bytes: &[u8], known: u64, answer: &mut
 }
 
 // A committer of it by place: its number, and where its name stands in the record.
-#[unsafe(no_mangle)]
-pub extern "C" fn dehlbazin_read_committer(
-    bytes: &[u8],
-    known: u64,
-    place: u64,
-    answer: &mut [u8],
-) -> u32
+pub fn dehlbazin_read_committer(bytes: &[u8], known: u64, place: u64, answer: &mut [u8]) -> u32
     ensures { Did (record_call (read_committer known place) bytes.now answer.old) result answer.new (bytes.now ∷ []) }
 {
     if answer.len() != Answer::SIZE {
@@ -281,8 +229,7 @@ pub extern "C" fn dehlbazin_read_committer(
 }
 
 // Writes a settings record at the beginning of a buffer: its length.
-#[unsafe(no_mangle)]
-pub extern "C" fn dehlbazin_write_settings(
+pub fn dehlbazin_write_settings(
     buffer: &mut [u8],
     version: u64,
     log: u64,
@@ -307,8 +254,7 @@ pub extern "C" fn dehlbazin_write_settings(
 // ---- a list of edits in fragments: a receiver collects them, with no region, and closing gives them to prepare
 
 // Makes a receiver that holds nothing, whatever its bytes were.
-#[unsafe(no_mangle)]
-pub extern "C" fn dehlbazin_fresh_receiver(receiver: &mut [u8], answer: &mut [u8]) -> u32
+pub fn dehlbazin_fresh_receiver(receiver: &mut [u8], answer: &mut [u8]) -> u32
     ensures { Did (receiver_call fresh_receiver receiver.old answer.old) result answer.new (receiver.new ∷ []) }
 {
     if answer.len() != Answer::SIZE {
@@ -319,12 +265,7 @@ pub extern "C" fn dehlbazin_fresh_receiver(receiver: &mut [u8], answer: &mut [u8
 }
 
 // Takes a fragment of any length: how many bytes are held now.
-#[unsafe(no_mangle)]
-pub extern "C" fn dehlbazin_take_fragment(
-    receiver: &mut [u8],
-    fragment: &[u8],
-    answer: &mut [u8],
-) -> u32
+pub fn dehlbazin_take_fragment(receiver: &mut [u8], fragment: &[u8], answer: &mut [u8]) -> u32
     ensures { Did (receiver_call (take_fragment fragment.now) receiver.old answer.old) result answer.new (receiver.new ∷ []) }
 {
     if answer.len() != Answer::SIZE {
@@ -335,8 +276,7 @@ pub extern "C" fn dehlbazin_take_fragment(
 }
 
 // Prepares what a receiver holds, as prepare does, and leaves a fresh one.
-#[unsafe(no_mangle)]
-pub extern "C" fn dehlbazin_close_receiver(
+pub fn dehlbazin_close_receiver(
     region: &mut [u8],
     receiver: &mut [u8],
     mode: u64,

@@ -22,9 +22,9 @@ pub enum Taken {
 }
 
 fn fill(input: &mut Input, notes: &mut Notes) {
-    let got = libc::read(0, input);
+    let got = io::read_full(0, input);
     notes[Note::FROM] = 0;
-    notes[Note::TO] = io::count(got, input) as u64;
+    notes[Note::TO] = got as u64;
 }
 
 fn fill_if_empty(input: &mut Input, notes: &mut Notes) {

@@ -1,7 +1,8 @@
 // What is written to standard output: texts, numbers, and the blanks that keep columns straight.
 #![tactic(auto)]
 
-use libc::STDOUT_FILENO;
+// Standard output.
+const STDOUT_FILENO: i32 = 1;
 
 pub fn text(bytes: &[u8]) {
     io::write_all(STDOUT_FILENO, bytes);

@@ -1,12 +1,17 @@
 // Where regions come from: files that are named as arguments, or standard input.
 use crate::judge;
-use libc::STDIN_FILENO;
+use std::env::FillError;
+use std::os::fd::AsRawFd;
+use std::rt::Env;
+use std::{fs, str};
+
+// Standard input.
+const STDIN_FILENO: i32 = 0;
 
 // What is left of the input is counted, and not kept. The number is 0 where nothing is left, or cannot be read.
 fn some_more(fd: i32) -> usize {
     let mut rest = io::buffer();
-    let got = libc::read(fd, &mut rest);
-    io::count(got, &rest)
+    io::read_full(fd, &mut rest)
 }
 
 fn one_more(fd: i32, size: u64) -> u64 {
@@ -36,38 +41,55 @@ fn read(fd: i32) {
     judge::region(&bytes[..got], size);
 }
 
-fn file(path: &[u8]) {
+// A path that is no text of UTF-8 opens nothing.
+fn open(rt: &HostRuntime, path: &[u8]) -> Option<fs::File> {
+    match str::from_utf8(path) {
+        Ok(text) => fs::open(rt, text).ok(),
+        Err(_) => None,
+    }
+}
+
+fn file(rt: &HostRuntime, path: &[u8]) {
     say::text(b"== ");
     say::text(path);
     say::end();
-    let fd = os::open_read(path);
-    if fd < 0 {
-        say::text(b"it cannot be opened\n");
-        return;
+    match open(rt, path) {
+        Some(opened) => read(opened.as_raw_fd()),
+        None => say::text(b"it cannot be opened\n"),
     }
-    read(fd);
-    libc::close(fd);
 }
 
-fn argument(i: usize) {
+// False where there is no such argument. One that is too long for a path is shown as an empty one.
+fn argument(rt: &HostRuntime, i: usize) -> bool {
     let mut path = io::buffer();
-    let length = os::arg(i, &mut path);
-    file(&path[..length]);
+    match rt.arg(i, &mut path) {
+        Ok(length) => {
+            file(rt, &path[..length]);
+            true
+        }
+        Err(FillError::TooLong) => {
+            file(rt, b"");
+            true
+        }
+        Err(FillError::NotPresent) => false,
+    }
 }
 
-fn arguments(count: usize) {
-    let mut i: usize = 1;
-    while i < count {
-        argument(i);
+// The arguments behind the first.
+fn arguments(rt: &HostRuntime) {
+    let mut i: usize = 2;
+    while i < usize::MAX {
+        if !argument(rt, i) {
+            return;
+        }
         i += 1;
     }
 }
 
-pub fn all() {
-    let count = os::arg_count();
-    if count < 2 {
+pub fn all(rt: &HostRuntime) {
+    if argument(rt, 1) {
+        arguments(rt);
+    } else {
         read(STDIN_FILENO);
-        return;
     }
-    arguments(count);
 }

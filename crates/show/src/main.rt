@@ -7,6 +7,6 @@ mod judge;
 mod packed;
 mod store;
 
-fn main() {
-    input::all();
+fn main(rt: HostRuntime) {
+    input::all(&rt);
 }

@@ -1,4 +1,3 @@
-use Rattle.std.proofs.Common.{rules}
 use Rattle.asks.proofs.judge_places.Given as goal
 
 -- The measure is how many places are left.

@@ -1,5 +1,3 @@
-use borrow.Author.Rules.{rules}
-use Prim.Native.Nat.{◌-◌}
 use Rattle.broken.proofs.Earlier.{earlier}
 use Rattle.broken.proofs.name_twins.Goals as goal
 

@@ -1,6 +1,4 @@
-use borrow.Author.Rules.{rules}
 use Prim.Native.Nat.{◌-◌}
-use Rattle.broken.proofs.Earlier.{earlier}
 use Rattle.broken.proofs.name_twins.Given as goal
 
 abbrev pub invariant-loop-m : goal.invariant-loop-m

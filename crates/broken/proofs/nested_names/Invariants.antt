@@ -1,5 +1,4 @@
 use Prim.Native.Nat.{◌-◌}
-use borrow.Author.Rules.{rules}
 use Rattle.broken.proofs.nested_names.Given as goal
 
 abbrev pub invariant-loop-n : goal.invariant-loop-n

@@ -1,5 +1,4 @@
 use Prim.Native.Nat.{◌-◌}
-use borrow.Author.Rules.{rules}
 use Rattle.broken.proofs.nested_rows.Given as goal
 
 abbrev pub invariant-loop-i : goal.invariant-loop-i

@@ -1,5 +1,4 @@
 use Rattle.rows.proofs.Named.{rows_named}
-use borrow.Author.Rules.{rules}
 use Rattle.broken.proofs.nests_fine.Goals as goal
 
 pub nests_fine-requires-clause-named : goal.nests_fine-requires-clause-named

@@ -1,5 +1,4 @@
 use borrow.Author.Rules.{rules}
-use Prim.Native.Nat.{◌-◌}
 use Rattle.kept.proofs.Laws.{placed}
 use Rattle.broken.proofs.of_locks.Goals as goal
 

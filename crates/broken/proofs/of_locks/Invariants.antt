@@ -1,6 +1,4 @@
-use borrow.Author.Rules.{rules}
 use Prim.Native.Nat.{◌-◌}
-use Rattle.kept.proofs.Laws.{placed}
 use Rattle.broken.proofs.of_locks.Given as goal
 
 abbrev pub invariant-loop-n : goal.invariant-loop-n

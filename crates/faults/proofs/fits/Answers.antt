@@ -1,4 +1,3 @@
-use borrow.Author.Rules.{rules}
 use Rattle.faults.proofs.Slots.{slot_offset, slot_from, slot_ends}
 use Rattle.faults.proofs.fits.Goals as goal
 

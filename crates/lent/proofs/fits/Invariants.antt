@@ -1,4 +1,3 @@
-use Rattle.std.proofs.Common.{rules}
 use Rattle.lent.proofs.fits.Given as goal
 
 -- The measure is how many fields are left.

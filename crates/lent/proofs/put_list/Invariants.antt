@@ -1,4 +1,3 @@
-use Rattle.std.proofs.Common.{rules}
 use Rattle.lent.proofs.put_list.Given as goal
 
 -- The measure is how many edits are left.

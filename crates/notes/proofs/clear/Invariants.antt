@@ -1,4 +1,3 @@
-use Rattle.std.proofs.Common.{rules}
 use Rattle.notes.proofs.clear.Given as goal
 
 -- The measure is how many places are left. That a place is one of the notes is tested where it becomes 0.

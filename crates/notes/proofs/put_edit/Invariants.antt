@@ -1,4 +1,3 @@
-use Rattle.std.proofs.Common.{rules}
 use Rattle.notes.proofs.put_edit.Given as goal
 
 -- The measure is how many fields are left.

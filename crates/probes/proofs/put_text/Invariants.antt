@@ -1,4 +1,4 @@
-use Rattle.std.proofs.Common.{◌-◌, length, rules}
+use Rattle.std.proofs.Common.{◌-◌, length}
 use Rattle.probes.proofs.put_text.Given as goal
 
 -- The measure is how many bytes are left.

@@ -1,4 +1,3 @@
-use Rattle.std.proofs.Common.{rules}
 use Rattle.probes.proofs.too_many.Given as goal
 
 -- The measure is how many edits are left.

@@ -1,4 +1,4 @@
-use Rattle.std.proofs.Common.{◌-◌, rules}
+use Rattle.std.proofs.Common.{◌-◌}
 use Rattle.report.proofs.answer.Given as goal
 
 -- The measure is how many places of the record are left.

@@ -1,4 +1,4 @@
-use Rattle.std.proofs.Common.{◌-◌, length, rules}
+use Rattle.std.proofs.Common.{◌-◌, length}
 use Rattle.report.proofs.say_word.Given as goal
 
 -- The measure is how many bytes of the table are left.

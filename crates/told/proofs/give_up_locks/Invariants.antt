@@ -1,4 +1,3 @@
-use Rattle.std.proofs.Common.{rules}
 use Rattle.told.proofs.give_up_locks.Given as goal
 
 -- The measure is how many names are left. What is no name's number is tested where the table is read.

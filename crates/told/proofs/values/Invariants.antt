@@ -1,4 +1,3 @@
-use Rattle.std.proofs.Common.{rules}
 use Rattle.told.proofs.values.Given as goal
 
 -- The measure is how many names are left.

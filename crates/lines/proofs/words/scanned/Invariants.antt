@@ -1,4 +1,4 @@
-use Rattle.std.proofs.Common.{◌-◌, rules}
+use Rattle.std.proofs.Common.{◌-◌}
 use Rattle.lines.proofs.words.scanned.Given as goal
 
 -- The measure is how many bytes of the line are left.

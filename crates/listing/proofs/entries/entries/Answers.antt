@@ -1,4 +1,4 @@
-use Rattle.std.proofs.Common.{◌-◌, rules}
+use Rattle.std.proofs.Common.{rules}
 use Rattle.kept.proofs.Laws.{placed}
 use Rattle.listing.proofs.entries.entries.Goals as goal
 

@@ -1,5 +1,4 @@
-use Rattle.std.proofs.Common.{◌-◌, rules}
-use Rattle.kept.proofs.Laws.{placed}
+use Rattle.std.proofs.Common.{◌-◌}
 use Rattle.listing.proofs.entries.entries.Given as goal
 
 abbrev pub invariant-loop-n : goal.invariant-loop-n

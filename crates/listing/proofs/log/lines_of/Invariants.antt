@@ -1,4 +1,4 @@
-use Rattle.std.proofs.Common.{◌-◌, rules}
+use Rattle.std.proofs.Common.{◌-◌}
 use Rattle.listing.proofs.log.lines_of.Given as goal
 
 abbrev pub invariant-loop-i : goal.invariant-loop-i

@@ -1,4 +1,3 @@
-use Rattle.std.proofs.Common.{rules}
 use Rattle.writes.proofs.Named.{fine_named, told_first}
 use Rattle.word.proofs.Flags.{all_down}
 use Rattle.outlook.proofs.plan.all.Goals as goal

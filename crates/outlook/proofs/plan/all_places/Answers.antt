@@ -1,7 +1,5 @@
-use Rattle.std.proofs.Common.{◌-◌, rules}
 use Rattle.outlook.proofs.Places.{place_in}
 use Rattle.outlook.proofs.plan.all_places.Goals as goal
 
-pub place-made-requires-clause-numbers_value : goal.place-made-requires-clause-numbers_value
-place-made-requires-clause-numbers_value c =
-    (search rules, search place_in)
+pub place-made-requires-clause-k_bound : goal.place-made-requires-clause-k_bound
+place-made-requires-clause-k_bound c = search place_in

@@ -1,5 +1,4 @@
-use Rattle.std.proofs.Common.{◌-◌, rules}
-use Rattle.outlook.proofs.Places.{place_in}
+use Rattle.std.proofs.Common.{◌-◌}
 use Rattle.outlook.proofs.plan.all_places.Given as goal
 
 abbrev pub invariant-loop-k : goal.invariant-loop-k

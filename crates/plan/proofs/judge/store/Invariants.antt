@@ -1,4 +1,3 @@
-use Rattle.std.proofs.Common.{rules}
 use Rattle.plan.proofs.judge.store.Given as goal
 
 -- The measure is how many names are left.
