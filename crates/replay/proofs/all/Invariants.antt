@@ -1,4 +1,3 @@
-use Rattle.std.proofs.Common.{rules}
 use Rattle.replay.proofs.all.Given as goal
 
 -- The measure is the number of turns that are left. Nothing has to hold from turn to turn.

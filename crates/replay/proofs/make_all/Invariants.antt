@@ -1,4 +1,3 @@
-use Rattle.std.proofs.Common.{rules}
 use Rattle.replay.proofs.make_all.Given as goal
 
 -- The measure is how many calls are left.

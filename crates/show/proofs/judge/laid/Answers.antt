@@ -1,4 +1,3 @@
-use Rattle.std.proofs.Common.{rules}
 use Rattle.show.proofs.Laws.{is_fine}
 use Rattle.show.proofs.judge.laid.Goals as goal
 

@@ -1,4 +1,3 @@
-use Rattle.std.proofs.Common.{rules}
 use Rattle.show.proofs.Laws.{is_laid}
 use Rattle.show.proofs.judge.region.Goals as goal
 
