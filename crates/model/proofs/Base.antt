@@ -20,7 +20,7 @@ use Rattle.model.specs.Fine.{Fine, fine_loose, fine_packed, fine_entry, fine_lin
 use Rattle.model.specs.Commit.{released}
 use Rattle.model.specs.Reached.{Sound}
 use Rattle.model.proofs.Release.{released_at, freed_not_ours}
-use Rattle.model.proofs.Beneath.{Alone, alone_is, is_alone, alone_moved}
+use Rattle.model.proofs.Beneath.{Alone, is_alone, alone_moved}
 
 -- ---- an entry after a change
 

@@ -25,7 +25,7 @@ use Rattle.model.specs.Store.{Store, Entry, no_entry, empty, count, entry_at, ro
 use Rattle.model.specs.Outcome.{Outcome, refuse_if, or_refuse}
 use Rattle.model.specs.Outcome.Outcome.{refuse, pass}
 use Rattle.model.specs.Fine.{Fine, apart_names, fine_entry, fine_loose, fine_packed}
-use Rattle.model.specs.Reply.{Reply, ◌>>=◌, ◌>>◌, known, idle}
+use Rattle.model.specs.Reply.{Reply, ◌>>=◌, ◌>>◌, known}
 use Rattle.model.specs.Reply.Call.{start, add_name, name_bytes, load_loose, load_packed, place_lock, lift_lock, rollback, read_name, read_line, read_row}
 use Rattle.model.specs.Beneath.{is_loose, lies, loose_above, loose_beneath}
 use Rattle.model.specs.Commit.{released}

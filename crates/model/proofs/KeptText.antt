@@ -15,7 +15,6 @@ use Rattle.model.specs.Names.{pieces}
 use Rattle.model.specs.Store.{Store, Entry, no_entry, count, entry_at, is_prepared, is_lock, put_packed, with_entries}
 use Rattle.model.specs.Outcome.Outcome.{pass}
 use Rattle.model.specs.Reply.Call.{add_name, load_packed, write_packed, read_packed}
-use Rattle.model.specs.Reply.Given.{nothing}
 use Rattle.model.specs.Load.{number_from, new_entry, name_added, packed_loaded}
 use Rattle.model.specs.PackedText.{Ref, packed_text, line_feed, read_text, unpacked, packed_as, ref_loaded_as, ref_loaded, loaded, judged}
 use Rattle.model.specs.Calls.{text_written, text_read, step}

@@ -14,7 +14,6 @@ use Rattle.transaction.specs.Change.{new_value, is_log_only}
 use Rattle.model.specs.declared.Packed.{Packed}
 use Rattle.model.specs.declared.Packed.TheVariants as packed
 use Rattle.model.specs.Basic.{any}
-use Rattle.model.specs.Names.{packable}
 use Rattle.model.specs.Store.{Store, Entry, no_row, no_entry, count, entry_of, name_of, is_id, is_packed, mode_in}
 use Rattle.target.specs.Target.{is_object}
 use Rattle.model.specs.Rows.{name_in, change_in, row_at, counts, counts_as_update, packs_updates, opens}

@@ -11,7 +11,7 @@ use Rattle.model.specs.declared.Refusal.TheVariants.{Malformed}
 use Rattle.model.specs.Store.{Store, rows_in, is_prepared}
 use Rattle.model.specs.Rows.{change_in, row_at}
 use Rattle.model.specs.EditList.{edits_of}
-use Rattle.model.specs.Outcome.{Outcome, ◌>>=◌, ◌>>◌, or_refuse}
+use Rattle.model.specs.Outcome.{Outcome, ◌>>=◌, or_refuse}
 use Rattle.model.specs.Outcome.Outcome.{pass}
 use Rattle.model.specs.Split.{splits}
 use Rattle.model.specs.Prepare.{opening, existing_found}

@@ -3,17 +3,17 @@ use mathlib.Core.Path.{◌≡◌, refl, sym, ap, ap₂, ◌∙◌}
 use mathlib.Core.Bool.{Bool, true, false, ◌&&◌, cond}
 use mathlib.Core.List.{List, [], ◌∷◌}
 use mathlib.Core.Option.{Option, none, some}
-use Prim.Native.Nat.{ℕ, zero, suc, ◌+◌, ◌-◌, ◌*◌, ◌≤◌, ◌<◌}
+use Prim.Native.Nat.{ℕ, zero, suc, ◌+◌, ◌-◌, ◌≤◌, ◌<◌}
 use native.Mathlib.Omega.{arith}
 use lib.ListN.{length, take, drop, length-drop}
-use lib.Seq.{length-take-le, take_all, take-nil, drop-drop}
-use lib.Dec.{eqb, leb}
-use borrow.Author.Tests.{leb-true, eqb-true, eq-eqb, ne_eqb, le-leb, lt-leb}
+use lib.Seq.{length-take-le, take-nil, drop-drop}
+use lib.Dec.{eqb}
+use borrow.Author.Tests.{eqb-true, eq-eqb, ne_eqb, le-leb, lt-leb}
 use Rattle.word.specs.Be.{cut, val, val_on}
 use Rattle.word.proofs.Cut.{length_cut}
 use Rattle.word.proofs.Tests.{both_true}
 use Rattle.model.specs.EditList.{◌>>=◌}
-use Rattle.model.proofs.Binds.{none_some, some_is, some_then, cond_some}
+use Rattle.model.proofs.Binds.{none_some, some_is, some_then}
 use Rattle.settings.specs.Format.{Split, Number, within, split, tagged, entry_in, numbered, number_in}
 use Rattle.settings.proofs.Splits.{split_at, split_past, split_some}
 use Rattle.settings.proofs.Entries.{tagged_back}

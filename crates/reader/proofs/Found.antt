@@ -2,7 +2,6 @@
 use mathlib.Core.Path.{◌≡◌, refl, sym, ap, ◌∙◌}
 use mathlib.Core.Bool.{Bool, true, false, cond}
 use mathlib.Core.List.{List, []}
-use mathlib.Core.Option.{Option, some, get_or}
 use Prim.Native.Nat.{ℕ, ◌+◌, ◌-◌, ◌≤◌, ◌<◌}
 use native.Mathlib.Omega.{arith}
 use lib.ListN.{length}
@@ -15,7 +14,7 @@ use Rattle.model.specs.declared.Refusal.TheVariants.{MalformedRecord, UnknownVer
 use Rattle.model.specs.Outcome.{Outcome}
 use Rattle.model.specs.Outcome.Outcome.{refuse, pass}
 use Rattle.model.proofs.Binds.{refuse_pass, refuse_is, pass_is}
-use Rattle.settings.specs.Format.{Committer, Settings, committers_in, read}
+use Rattle.settings.specs.Format.{Committer, Settings, read}
 use Rattle.settings.specs.Lent.{name_in}
 use Rattle.settings.proofs.Whole.{list_stands}
 use Rattle.reader.specs.declared.Summary.{Summary}

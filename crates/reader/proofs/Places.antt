@@ -6,8 +6,6 @@ use mathlib.Core.Option.{Option, none, some}
 use Prim.Native.Nat.{ℕ, zero, suc, ◌+◌, ◌-◌, ◌≤◌, ◌<◌}
 use native.Mathlib.Omega.{arith}
 use lib.ListN.{length, get_or, drop, length-drop}
-use mir.Syntax.{w64}
-use mir.Val.{Fits}
 use Rattle.word.specs.Be.{cut, val}
 use Rattle.word.proofs.Cut.{length_cut}
 use Rattle.model.specs.EditList.{◌>>=◌}

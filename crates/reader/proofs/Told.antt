@@ -13,7 +13,7 @@ use borrow.Author.Tests.{not-true, not-false, le-leb, lt-leb}
 use Rattle.word.specs.Be.{cut, val}
 use Rattle.word.proofs.Be.{bytes_all, bytes_are, bytes_drop}
 use Rattle.model.specs.declared.Refusal.TheVariants.{MalformedRecord, UnknownVersion}
-use Rattle.model.specs.Outcome.{Outcome, or_refuse}
+use Rattle.model.specs.Outcome.{or_refuse}
 use Rattle.model.specs.Outcome.Outcome.{refuse, pass}
 use Rattle.settings.specs.Format.{Settings, is_version, settings_in, read_as, read}
 use Rattle.reader.specs.declared.Summary.{Summary}

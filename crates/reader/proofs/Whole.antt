@@ -1,11 +1,11 @@
 -- The whole record: the site, what stands behind the settings of one byte, all entries, and the frame. Assumes nothing.
 use mathlib.Core.Path.{◌≡◌, refl, sym, ap, ap₂, ◌∙◌}
-use mathlib.Core.Bool.{Bool, true, false, cond}
+use mathlib.Core.Bool.{Bool, cond}
 use mathlib.Core.List.{List, [], ◌∷◌}
 use mathlib.Core.Option.{Option, none, some}
-use Prim.Native.Nat.{ℕ, zero, suc, ◌+◌, ◌-◌, ◌≤◌, ◌<◌}
+use Prim.Native.Nat.{ℕ, ◌+◌, ◌-◌, ◌≤◌, ◌<◌}
 use native.Mathlib.Omega.{arith}
-use lib.ListN.{length, get_or, take, drop, length-drop}
+use lib.ListN.{length, get_or, drop, length-drop}
 use lib.Seq.{drop-drop}
 use lib.Dec.{eqb}
 use mir.Syntax.{w8, w64}
@@ -14,8 +14,8 @@ use borrow.Author.Tests.{eq-eqb, ne_eqb}
 use Rattle.word.specs.Be.{cut, val}
 use Rattle.word.proofs.Be.{bytes_all, val_cut}
 use Rattle.model.specs.EditList.{◌>>=◌}
-use Rattle.model.proofs.Binds.{none_some, some_is}
-use Rattle.settings.specs.Format.{Committer, Settings, Split, Number, has_site, split, entry_in, number_in, committers_in, ended, site_in, entries_in, framed, settings_in}
+use Rattle.model.proofs.Binds.{none_some}
+use Rattle.settings.specs.Format.{Committer, Settings, Split, Number, has_site, entry_in, number_in, committers_in, ended, site_in, entries_in, settings_in}
 use Rattle.reader.specs.declared.OptionLength.{OptionLength}
 use Rattle.reader.specs.declared.OptionLength.TheVariants.{NoLength, Length}
 use Rattle.reader.specs.declared.OptionNumber.{OptionNumber}

@@ -1,5 +1,5 @@
 -- What the code tells of a record: the forms of its answers, each a part of what the format's definitions give.
-use Rattle.std.specs.Prelude.{Bool, true, false, cond, List, [], ℕ, ◌+◌, ◌-◌, ◌≤◌, ◌<◌, length, get_or, ltb}
+use Rattle.std.specs.Prelude.{cond, List, [], ℕ, ◌+◌, ◌-◌, ◌≤◌, ◌<◌, length, get_or, ltb}
 use Rattle.std.proofs.Math.Option
 use Rattle.std.proofs.Math.Option.{Option, none, some}
 use Rattle.word.specs.Be.{cut, val}
@@ -29,7 +29,7 @@ use Rattle.reader.specs.declared.Reading.TheVariants.{Unknown, Malformed, Read}
 use Rattle.reader.specs.declared.Stretch.{Stretch}
 use Rattle.reader.specs.declared.Finding.{Finding}
 use Rattle.reader.specs.declared.Finding.TheVariants as finding
-use Rattle.settings.specs.Format.{Committer, Settings, Split, Number, Named, has_site, entry_in, number_in, committer_in, committers_in, site_in, entries_in}
+use Rattle.settings.specs.Format.{Committer, Settings, Split, Number, Named, has_site, entry_in, committers_in, site_in}
 use Rattle.settings.specs.Lent.{no_committer, committer_at, name_in, name_at}
 
 -- ---- entries

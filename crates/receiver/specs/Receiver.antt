@@ -4,7 +4,7 @@ use Rattle.std.specs.Prelude.{◌≡◌, Bool, true, ◌&&◌, not, cond, List, 
 use Rattle.word.specs.Be.{cut, val, be}
 use Rattle.word.specs.Tests.{same_list}
 use Rattle.model.specs.declared.Refusal.TheVariants.{BadRegion, ReceiverFull}
-use Rattle.model.specs.Outcome.{Outcome, ◌>>=◌, ◌>>◌, refuse_if}
+use Rattle.model.specs.Outcome.{Outcome, ◌>>◌, refuse_if}
 use Rattle.model.specs.Outcome.Outcome.{refuse, pass}
 use Rattle.model.specs.Reply.{Call}
 use Rattle.model.specs.Reply.Call.{prepare}

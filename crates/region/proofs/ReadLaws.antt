@@ -33,7 +33,6 @@ use Rattle.transaction.specs.Change.{default_log, row_of}
 use Rattle.model.specs.declared.Loose.{Loose}
 use Rattle.model.specs.declared.Loose.TheVariants as loose
 use Rattle.model.specs.declared.Packed.{Packed}
-use Rattle.model.specs.declared.Packed.TheVariants as packed
 use Rattle.model.specs.declared.Lock.{Lock}
 use Rattle.model.specs.declared.Lock.TheVariants.{Free}
 use Rattle.model.specs.declared.WriteReflog.TheVariants.{Disable, Normal, Always}

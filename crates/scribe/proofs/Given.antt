@@ -7,19 +7,19 @@ use mathlib.Core.Option.{Option, none, some}
 use Prim.Native.Nat.{ℕ, suc, ◌+◌, ◌-◌, ◌*◌, ◌<◌, ◌≤◌}
 use native.Mathlib.Omega.{arith}
 use lib.ListN.{length, take, drop, get_or, length-drop, length-append}
-use lib.Seq.{take_all, length-take-le}
+use lib.Seq.{length-take-le}
 use lib.Dec.{eqb, ltb, leb}
 use lib.Pow.{are_bytes}
 use borrow.Author.Tests.{le-leb, lt-leb, ne_eqb, leb-true, leb-false, not-true, not-false}
 use Rattle.word.specs.Codec.{is_some}
-use Rattle.word.proofs.Be.{bytes_all, bytes_take, bytes_are, length_be}
-use Rattle.word.proofs.Tests.{both_true, every_at}
+use Rattle.word.proofs.Be.{bytes_all, bytes_take, bytes_are}
+use Rattle.word.proofs.Tests.{both_true}
 use Rattle.model.specs.Basic.{collect}
 use Rattle.model.specs.EditList.{◌>>=◌}
 use Rattle.settings.specs.Format.{Committer, within, follows, rising, listed, split}
 use Rattle.settings.specs.Lent.{committers_given, settings_given}
 use Rattle.settings.proofs.Splits.{to_end}
-use Rattle.settings.proofs.Committers.{Fine, fine, listed_length}
+use Rattle.settings.proofs.Committers.{fine, listed_length}
 use Rattle.scribe.specs.Writing.{given_rising, given_writable, committers_from, content_from, content_length, numbers_fit}
 use Rattle.scribe.proofs.Tests.{writable_by}
 

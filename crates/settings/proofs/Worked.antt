@@ -1,15 +1,13 @@
 -- The examples of docs/SETTINGS.md, by computing: what is written for them, and what each reader makes of that. Assumes nothing.
 use mathlib.Core.Path.{◌≡◌, refl}
-use mathlib.Core.Bool.{cond}
 use mathlib.Core.List.{List, [], ◌∷◌, ◌++◌}
 use Prim.Native.Nat.{ℕ}
 use lib.ListN.{take}
 use Rattle.word.specs.Be.{be, be_on, val, val_on}
 use Rattle.model.specs.declared.Refusal.TheVariants.{MalformedRecord, UnknownVersion}
 use Rattle.model.specs.Basic.{text}
-use Rattle.model.specs.Outcome.{Outcome}
 use Rattle.model.specs.Outcome.Outcome.{refuse, pass}
-use Rattle.settings.specs.Format.{Committer, Settings, write, read}
+use Rattle.settings.specs.Format.{Settings, write, read}
 use Rattle.settings.specs.Lent.{name_at}
 use Rattle.settings.specs.Format.{follows, rising, in_bounds, entry, listed, site_entry, entries, form, writable, split, entry_in}
 use Rattle.settings.specs.Format.{number_in, committer_in, committers_in, site_in, entries_in, settings_in}

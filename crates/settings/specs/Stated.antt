@@ -1,5 +1,5 @@
 -- What is proved of the settings record. The proofs stand in proofs/Stated.antt.
-use Rattle.std.specs.Prelude.{◌≡◌, true, List, [], ◌∷◌, ◌++◌, ℕ, ◌≤◌, ◌<◌, length, get_or}
+use Rattle.std.specs.Prelude.{◌≡◌, true, List, ◌∷◌, ℕ, ◌≤◌, ◌<◌, length, get_or}
 use Rattle.word.specs.Be.{cut}
 use Rattle.model.specs.declared.Refusal.TheVariants.{UnknownVersion}
 use Rattle.model.specs.Outcome.Outcome.{refuse, pass}

@@ -1,13 +1,13 @@
 -- The numbers of a value that fits are read as that value, and a value that was read of numbers fits and has those numbers.
 -- Assumes nothing.
 use mathlib.Core.Path.{◌≡◌, refl, sym, ap, ◌∙◌}
-use mathlib.Core.Bool.{Bool, true, false, ◌&&◌, cond, false≢true}
-use mathlib.Core.List.{List, [], ◌∷◌, ◌++◌}
+use mathlib.Core.Bool.{Bool, true, false, ◌&&◌, cond}
+use mathlib.Core.List.{List, [], ◌∷◌}
 use mathlib.Core.Option.{none, some}
 use Prim.Native.Nat.{ℕ, zero, suc, ◌<◌, ◌^◌}
 use native.Mathlib.Omega.{arith}
-use lib.Dec.{eqb, leb, ltb, lit<}
-use borrow.Author.Tests.{eqb-true, eqb-false, ne_eqb, ltb-true, lt-ltb, leb-false, lt-leb}
+use lib.Dec.{eqb, leb, lit<}
+use borrow.Author.Tests.{eqb-true, eqb-false, ne_eqb, leb-false, lt-leb}
 use Rattle.word.specs.Fields.{Fit}
 use Rattle.word.specs.Fields.Fit.{end, and}
 use Rattle.target.specs.declared.Target.TheVariants.{Object, Symbolic}

@@ -1,15 +1,15 @@
 -- What the proofs of the slots' functions cite, over variables. Assumes nothing.
 use mathlib.Core.Path.{◌≡◌, refl, sym, ap, ap₂, ◌∙◌}
 use mathlib.Core.Bool.{Bool, true, false, not, ◌&&◌}
-use mathlib.Core.List.{List, [], ◌∷◌, ◌++◌, append-nil}
+use mathlib.Core.List.{List, [], ◌∷◌, append-nil}
 use mathlib.Core.Option.{Option, none, some}
-use Prim.Native.Nat.{ℕ, zero, suc, ◌+◌, ◌-◌, ◌<◌, ◌≤◌, ◌^◌}
+use Prim.Native.Nat.{ℕ, zero, suc, ◌+◌, ◌<◌, ◌≤◌}
 use native.Mathlib.Omega.{arith}
 use lib.ListN.{length, get_or, drop}
 use lib.Seq.{take_all, drop-cons}
 use native.Mathlib.Numerals.{add-one}
 use lib.Dec.{eqb}
-use borrow.Author.Tests.{lt-ltb, le-leb, lt-leb, eq-eqb, ne_eqb, not-true, not-false}
+use borrow.Author.Tests.{le-leb, lt-leb, ne_eqb, not-true, not-false}
 use mir.Val.{Fits}
 use mir.Syntax.{w64}
 use Rattle.word.specs.Be.{cut, val, be}
@@ -47,9 +47,9 @@ use Rattle.model.specs.declared.Packed.{Packed}
 use Rattle.model.specs.declared.Packed.TheVariants as packed
 use Rattle.model.specs.declared.Lock.{Lock}
 use Rattle.model.specs.declared.Line.{Line}
-use Rattle.model.specs.Store.{is_id, lock_byte}
+use Rattle.model.specs.Store.{lock_byte}
 use Rattle.slots.specs.declared.OptionLock.{OptionLock}
-use Rattle.slots.specs.Values.{target_from, unbroken, loose_from, loose_form, loose_kind, loose_number, packed_number, packed_form, lock_from, lock_in, lock_option, lock_form, line_from, line_form, line_numbers, line_widths, packed_from}
+use Rattle.slots.specs.Values.{target_from, unbroken, loose_from, loose_form, loose_kind, loose_number, packed_form, lock_from, lock_in, lock_option, lock_form, line_from, line_form, line_numbers, line_widths, packed_from}
 use Rattle.model.specs.EditList.{◌>>=◌, flag_of, change_of}
 use Rattle.slots.specs.declared.OptionOptionTarget.{OptionOptionTarget}
 use Rattle.slots.specs.declared.OptionOptionTarget.TheVariants.{NoTarget}

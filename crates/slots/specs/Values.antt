@@ -1,6 +1,6 @@
 -- The forms of a loose value, a packed value, a lock and a log line in a slot of bytes. Each has a form for every value and a
 -- reading of every slot, which finds a value or none.
-use Rattle.std.specs.Prelude.{Bool, true, false, ◌&&◌, cond, List, [], ◌∷◌, ℕ, zero, suc, ◌^◌, ◌<◌, get_or, eqb, leb}
+use Rattle.std.specs.Prelude.{◌&&◌, cond, List, [], ◌∷◌, ℕ, zero, suc, ◌^◌, ◌<◌, get_or, eqb, leb}
 use Rattle.std.proofs.Math.Option.{Option, none, some}
 use Rattle.word.specs.Be.{cut, val}
 use Rattle.word.specs.Fields.{fields, unfields}

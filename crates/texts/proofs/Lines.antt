@@ -12,7 +12,7 @@ use Rattle.word.proofs.Tests.{every_false}
 use Rattle.model.specs.Basic.{all}
 use Rattle.model.specs.Names.{before, is_name, is_char, under, packable}
 use Rattle.model.specs.Store.{is_id}
-use Rattle.model.specs.PackedText.{Ref, is_digit, digits_from, ref_tests, ref_in, is_peeled, ref_said, line_said}
+use Rattle.model.specs.PackedText.{is_digit, digits_from, ref_tests, ref_in, is_peeled, ref_said, line_said}
 use Rattle.model.proofs.Digits.{all_last, ref_reaches, ref_small}
 use Rattle.names.proofs.Bytes.{to_end}
 use Rattle.texts.specs.declared.OptionNumber.{OptionNumber}

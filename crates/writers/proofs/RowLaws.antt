@@ -3,10 +3,10 @@ use mathlib.Core.Path.{◌≡◌, refl, sym, ap, ap₂, ◌∙◌, subst}
 use mathlib.Core.Bool.{true, false≢true}
 use mathlib.Core.List.{List, [], ◌∷◌, ◌++◌}
 use mathlib.Core.Option.{Option, none, some}
-use Prim.Native.Nat.{ℕ, zero, suc, ◌+◌, ◌-◌, ◌*◌, ◌≤◌, ◌<◌}
+use Prim.Native.Nat.{ℕ, ◌+◌, ◌-◌, ◌*◌, ◌≤◌, ◌<◌}
 use native.Mathlib.Nat.{le_trans, le_of_eq}
 use native.Mathlib.Omega.{arith}
-use lib.ListN.{length, set, replicate, length-set, length-append, length-replicate}
+use lib.ListN.{length, set, replicate, length-set, length-append}
 use Rattle.word.specs.Be.{cut, be}
 use Rattle.word.specs.Cut.{put}
 use Rattle.word.proofs.Be.{length_be}
@@ -17,7 +17,6 @@ use Rattle.transaction.specs.declared.Edit.{Edit}
 use Rattle.transaction.specs.Fields.{packed_refs_number}
 use Rattle.model.specs.Store.{Store, Prepared, no_row, rows_in, is_prepared, with_prepared, rows_as, with_rows}
 use Rattle.model.specs.Rows.{row_at}
-use Rattle.model.proofs.All.{at_append}
 use Rattle.slots.specs.Row.{row_form, FitsRow}
 use Rattle.region.specs.Region.{image, view, Laid, Became}
 use Rattle.region.proofs.Fits.{FitsStore}

@@ -5,7 +5,7 @@ use Prim.Native.Nat.{ℕ, zero, suc, ◌+◌, ◌-◌, ◌≤◌}
 use native.Mathlib.Numerals.{add-one}
 use native.Mathlib.Omega.{arith}
 use lib.ListN.{length, set, take, drop, replicate, length-append, length-replicate, replicate-append-replicate, take-append-drop}
-use lib.Seq.{drop_at, drop-drop, set_at, length-take-le}
+use lib.Seq.{drop_at, set_at, length-take-le}
 use Rattle.word.specs.Be.{cut}
 use Rattle.word.specs.Cut.{put, flat, total}
 use Rattle.word.specs.Table.{table}

@@ -1,7 +1,7 @@
 -- The mode and the rows written into the image of a store leave the image of the store with them. Assumes nothing.
 use mathlib.Core.Path.{◌≡◌, refl, sym, ap, ap₂, ◌∙◌}
 use mathlib.Core.List.{List, [], ◌∷◌, ◌++◌, map}
-use mathlib.Core.Option.{Option, none, some}
+use mathlib.Core.Option.{none, some}
 use Prim.Native.Nat.{ℕ, ◌+◌, ◌*◌, ◌≤◌, ◌<◌}
 use native.Mathlib.Omega.{arith}
 use lib.ListN.{length, set, length-set, length-append}
@@ -16,7 +16,7 @@ use Rattle.word.proofs.Codec.{slot_room}
 use Rattle.transaction.specs.declared.PackedRefs.{PackedRefs}
 use Rattle.transaction.specs.declared.Edit.{Edit}
 use Rattle.transaction.specs.Fields.{packed_refs_number}
-use Rattle.model.specs.Store.{Store, Prepared, with_prepared}
+use Rattle.model.specs.Store.{Store, with_prepared}
 use Rattle.slots.specs.Row.{row_form}
 use Rattle.slots.proofs.Codecs.{wide_row}
 use Rattle.region.specs.Layout.{sizes}

@@ -1,4 +1,3 @@
-use borrow.Author.Rules.{rules}
 use Rattle.answers.proofs.named_one.Goals as goal
 
 -- src/lib.rt:170:1

@@ -1,4 +1,3 @@
-use borrow.Author.Rules.{rules}
 use Rattle.answers.proofs.named_two.Goals as goal
 
 -- src/lib.rt:184:1

@@ -1,10 +1,6 @@
-use mathlib.Core.Path.{◌≡◌, refl}
-use Prim.Native.Nat.{◌*◌, ◌-◌, ◌≤◌}
+use mathlib.Core.Path.{refl}
 use native.Mathlib.Omega.{arith}
-use lib.ListN.{length, take}
 use borrow.Author.Rules.{rules}
-use Rattle.word.specs.Be.{be}
-use Rattle.model.specs.Basic.{collect}
 use Rattle.answers.proofs.Laws.{turn, end}
 use Rattle.answers.proofs.put_places.Goals as goal
 

@@ -1,11 +1,8 @@
-use mathlib.Core.Path.{◌≡◌, refl}
+use mathlib.Core.Path.{◌≡◌}
 use Prim.Native.Nat.{◌*◌, ◌-◌, ◌≤◌}
-use native.Mathlib.Omega.{arith}
 use lib.ListN.{length, take}
-use borrow.Author.Rules.{rules}
 use Rattle.word.specs.Be.{be}
 use Rattle.model.specs.Basic.{collect}
-use Rattle.answers.proofs.Laws.{turn, end}
 use Rattle.answers.proofs.put_places.Given as goal
 
 -- `put_places` meets its contract: the first i places stand in the first i * 8 bytes. Assumes nothing.

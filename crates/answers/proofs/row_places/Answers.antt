@@ -1,4 +1,3 @@
-use borrow.Author.Rules.{rules}
 use Rattle.answers.proofs.Laws.{row_is}
 use Rattle.answers.proofs.row_places.Goals as goal
 

@@ -2,8 +2,6 @@ use Prim.Native.Nat.{◌-◌}
 use Rattle.word.proofs.Tests.{Unmet}
 use Rattle.region.specs.Region.{view}
 use Rattle.beneath.specs.Facing.{facing}
-use borrow.Author.Rules.{rules}
-use Rattle.beneath.proofs.Laws.{facing_start, facing_more, facing_here, facing_end}
 use Rattle.beneath.proofs.any_facing.Given as goal
 
 abbrev pub invariant-loop-m : goal.invariant-loop-m

@@ -1,4 +1,3 @@
-use borrow.Author.Rules.{rules}
 use Rattle.beneath.proofs.Laws.{nested_first, nested_second}
 use Rattle.beneath.proofs.are_nested.Goals as goal
 

@@ -1,4 +1,3 @@
-use borrow.Author.Rules.{rules}
 use Rattle.beneath.proofs.Laws.{no_bytes_lem}
 use Rattle.beneath.proofs.bytes_of.Goals as goal
 

@@ -1,4 +1,3 @@
-use borrow.Author.Rules.{rules}
 use Rattle.beneath.proofs.Laws.{conflicts_above, conflicts_unwritten, conflicts_beneath, conflicts_earlier}
 use Rattle.beneath.proofs.conflicts.Goals as goal
 

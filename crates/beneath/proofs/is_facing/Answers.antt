@@ -1,4 +1,3 @@
-use borrow.Author.Rules.{rules}
 use Rattle.beneath.proofs.Laws.{facing_not, facing_up, facing_down}
 use Rattle.beneath.proofs.is_facing.Goals as goal
 

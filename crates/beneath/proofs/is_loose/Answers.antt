@@ -1,4 +1,3 @@
-use borrow.Author.Rules.{rules}
 use Rattle.beneath.proofs.Laws.{no_loose, loose_here}
 use Rattle.beneath.proofs.is_loose.Goals as goal
 

@@ -1,4 +1,3 @@
-use borrow.Author.Rules.{rules}
 use Rattle.beneath.proofs.Laws.{lies_here}
 use Rattle.beneath.proofs.lies_beneath.Goals as goal
 

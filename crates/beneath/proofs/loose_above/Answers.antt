@@ -1,4 +1,3 @@
-use borrow.Author.Rules.{rules}
 use Rattle.beneath.proofs.Laws.{above_is}
 use Rattle.beneath.proofs.loose_above.Goals as goal
 

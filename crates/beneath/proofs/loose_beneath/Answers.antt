@@ -1,4 +1,3 @@
-use borrow.Author.Rules.{rules}
 use Rattle.beneath.proofs.Laws.{beneath_is}
 use Rattle.beneath.proofs.loose_beneath.Goals as goal
 

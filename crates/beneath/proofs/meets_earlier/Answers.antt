@@ -1,10 +1,5 @@
 use Prim.Native.Nat.{◌-◌}
-use Rattle.word.proofs.Tests.{Unmet}
-use Rattle.model.specs.Store.{rows_in}
-use Rattle.region.specs.Region.{view}
-use Rattle.beneath.specs.Facing.{meets}
-use borrow.Author.Rules.{rules}
-use Rattle.beneath.proofs.Laws.{earlier_start, earlier_more, earlier_here, earlier_end, row_inside}
+use Rattle.beneath.proofs.Laws.{earlier_start, earlier_more, earlier_here, earlier_end}
 use Rattle.beneath.proofs.meets_earlier.Goals as goal
 
 pub loop-j-init : goal.loop-j-init

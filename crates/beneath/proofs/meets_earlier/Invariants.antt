@@ -3,8 +3,6 @@ use Rattle.word.proofs.Tests.{Unmet}
 use Rattle.model.specs.Store.{rows_in}
 use Rattle.region.specs.Region.{view}
 use Rattle.beneath.specs.Facing.{meets}
-use borrow.Author.Rules.{rules}
-use Rattle.beneath.proofs.Laws.{earlier_start, earlier_more, earlier_here, earlier_end, row_inside}
 use Rattle.beneath.proofs.meets_earlier.Given as goal
 
 abbrev pub invariant-loop-j : goal.invariant-loop-j

@@ -1,4 +1,3 @@
-use borrow.Author.Rules.{rules}
 use Rattle.beneath.proofs.Laws.{meets_not, meets_will}
 use Rattle.beneath.proofs.meets_row.Goals as goal
 

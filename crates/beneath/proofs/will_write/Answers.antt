@@ -1,4 +1,3 @@
-use borrow.Author.Rules.{rules}
 use Rattle.beneath.proofs.Laws.{will_is}
 use Rattle.beneath.proofs.will_write.Goals as goal
 

@@ -1,4 +1,3 @@
-use borrow.Author.Rules.{rules}
 use Rattle.beneath.proofs.Laws.{would_delete, would_log, would_direct, would_link, would_object}
 use Rattle.beneath.proofs.would_write.Goals as goal
 

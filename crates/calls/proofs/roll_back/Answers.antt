@@ -1,4 +1,3 @@
-use borrow.Author.Rules.{rules}
 use Rattle.calls.proofs.Laws.{rollback_bad, rollback_done}
 use Rattle.calls.proofs.Replies.{good_laid}
 use Rattle.calls.proofs.roll_back.Goals as goal

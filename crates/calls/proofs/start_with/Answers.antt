@@ -1,4 +1,3 @@
-use borrow.Author.Rules.{rules}
 use Rattle.calls.proofs.Laws.{start_size, start_malformed, start_done}
 use Rattle.calls.proofs.start_with.Goals as goal
 

@@ -1,5 +1,4 @@
 use Rattle.calls.proofs.Laws.{record_size, record_unknown, record_malformed, record_starts}
-use borrow.Author.Rules.{rules}
 use Rattle.calls.proofs.start_with_settings.Goals as goal
 
 pub returns-then-region-ne-SIZE : goal.returns-then-region-ne-SIZE

@@ -1,4 +1,3 @@
-use borrow.Author.Rules.{rules}
 use Rattle.calls.proofs.Replies.{good_laid, good_fine, bad_region}
 use Rattle.committing.proofs.Ended.{busy, commit_idle, commit_done}
 use Rattle.committing.proofs.commit.Goals as goal

@@ -1,4 +1,3 @@
-use borrow.Author.Rules.{rules}
 use Rattle.committing.proofs.Ended.{commit_over}
 use Rattle.committing.proofs.commit_by.Goals as goal
 

@@ -1,9 +1,5 @@
-use borrow.Author.Rules.{rules}
 use Prim.Native.Nat.{◌-◌}
-use Rattle.model.specs.Commit.{committing}
-use Rattle.model.specs.Demand3.{by}
-use Rattle.region.specs.Region.{view}
-use Rattle.committing.proofs.Loop.{Before, before_start, before_laid, before_named, before_apart, before_told, before_place, before_made, before_room, place_done, ran_out}
+use Rattle.committing.proofs.Loop.{before_start, before_laid, before_named, before_apart, before_told, before_place, before_made, before_room, place_done, ran_out}
 use Rattle.committing.proofs.commit_places.Goals as goal
 
 pub loop-k-init : goal.loop-k-init

@@ -1,4 +1,3 @@
-use borrow.Author.Rules.{rules}
 use Rattle.committing.proofs.Ended.{commit_stranger, commit_signed}
 use Rattle.committing.proofs.commit_prepared.Goals as goal
 

@@ -1,4 +1,3 @@
-use borrow.Author.Rules.{rules}
 use Rattle.committing.proofs.May.{may_first}
 use Rattle.committing.proofs.Turned.{turned_first}
 use Rattle.committing.proofs.first_turn.Goals as goal

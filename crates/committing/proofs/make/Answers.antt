@@ -1,5 +1,4 @@
 use Rattle.committing.proofs.Making.{line_room, line_fits, loose_named, loose_fits, pack_named, pack_apart, removed_named, makes_nothing, makes_line, makes_loose, makes_log, makes_packed, makes_gone}
-use borrow.Author.Rules.{rules}
 use Rattle.committing.proofs.make.Goals as goal
 
 pub add_line-requires-clause-region_len_bound : goal.add_line-requires-clause-region_len_bound

@@ -1,6 +1,5 @@
-use borrow.Author.Rules.{rules}
 use Prim.Native.Nat.{◌-◌}
-use Rattle.committing.proofs.Packing.{Packing, packing_start, packing_named, packing_place, packing_more, packing_end}
+use Rattle.committing.proofs.Packing.{Packing}
 use Rattle.committing.proofs.pack_rows.Given as goal
 
 abbrev pub invariant-loop-i : goal.invariant-loop-i

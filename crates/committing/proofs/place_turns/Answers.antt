@@ -1,4 +1,3 @@
-use borrow.Author.Rules.{rules}
 use Rattle.committing.proofs.Turned.{fewer, half_named, half_apart, half_made, placed}
 use Rattle.committing.proofs.place_turns.Goals as goal
 

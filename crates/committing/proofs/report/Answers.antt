@@ -1,4 +1,3 @@
-use borrow.Author.Rules.{rules}
 use Rattle.committing.proofs.Ended.{reports_done, reports_unsigned, reports_used}
 use Rattle.committing.proofs.report.Goals as goal
 

@@ -1,4 +1,3 @@
-use borrow.Author.Rules.{rules}
 use Rattle.committing.proofs.May.{may_second}
 use Rattle.committing.proofs.Turned.{turned_second}
 use Rattle.committing.proofs.second_turn.Goals as goal

@@ -1,5 +1,4 @@
 use Rattle.committing.proofs.Judge.{turn_stopped, turn_nothing, turn_used, turn_unsigned, turn_made}
-use borrow.Author.Rules.{rules}
 use Rattle.committing.proofs.turn.Goals as goal
 
 pub returns-then-not-is_going : goal.returns-then-not-is_going

@@ -1,5 +1,4 @@
 use Rattle.committing.proofs.Judge.{committer_asked, committer_not}
-use borrow.Author.Rules.{rules}
 use Rattle.committing.proofs.wants_committer.Goals as goal
 
 pub returns-then-is_line_write : goal.returns-then-is_line_write

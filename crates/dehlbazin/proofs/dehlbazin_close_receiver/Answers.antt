@@ -1,4 +1,3 @@
-use borrow.Author.Rules.{rules}
 use Rattle.dehlbazin.proofs.Laws.{small_closing, finished_closing}
 use Rattle.dehlbazin.proofs.dehlbazin_close_receiver.Goals as goal
 

@@ -1,4 +1,3 @@
-use borrow.Author.Rules.{rules}
 use Rattle.dehlbazin.proofs.Laws.{small_record, finished}
 use Rattle.dehlbazin.proofs.dehlbazin_read_row.Goals as goal
 

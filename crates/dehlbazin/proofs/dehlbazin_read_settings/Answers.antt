@@ -1,4 +1,3 @@
-use borrow.Author.Rules.{rules}
 use Rattle.dehlbazin.proofs.Laws.{small_settings, finished_settings}
 use Rattle.dehlbazin.proofs.dehlbazin_read_settings.Goals as goal
 

@@ -1,4 +1,3 @@
-use borrow.Author.Rules.{rules}
 use Rattle.dehlbazin.proofs.Laws.{small_start, finished_start}
 use Rattle.dehlbazin.proofs.dehlbazin_start_with_settings.Goals as goal
 

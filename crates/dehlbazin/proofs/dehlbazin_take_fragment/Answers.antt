@@ -1,4 +1,3 @@
-use borrow.Author.Rules.{rules}
 use Rattle.dehlbazin.proofs.Laws.{small_receiver, finished_receiver}
 use Rattle.dehlbazin.proofs.dehlbazin_take_fragment.Goals as goal
 

@@ -1,4 +1,3 @@
-use borrow.Author.Rules.{rules}
 use Rattle.dehlbazin.proofs.Laws.{small_writing, finished_writing}
 use Rattle.dehlbazin.proofs.dehlbazin_write_packed.Goals as goal
 

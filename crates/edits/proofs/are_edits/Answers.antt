@@ -1,7 +1,4 @@
-use Prim.Native.Nat.{◌-◌}
-use lib.ListN.{length}
-use borrow.Author.Rules.{rules}
-use Rattle.edits.proofs.Lists.{Left, left_start, left_more, left_fails, left_end}
+use Rattle.edits.proofs.Lists.{left_start, left_more, left_fails, left_end}
 use Rattle.edits.proofs.are_edits.Goals as goal
 
 pub loop-at-init : goal.loop-at-init

@@ -1,7 +1,6 @@
 use Prim.Native.Nat.{◌-◌}
 use lib.ListN.{length}
-use borrow.Author.Rules.{rules}
-use Rattle.edits.proofs.Lists.{Left, left_start, left_more, left_fails, left_end}
+use Rattle.edits.proofs.Lists.{Left}
 use Rattle.edits.proofs.are_edits.Given as goal
 
 abbrev pub invariant-loop-at : goal.invariant-loop-at

@@ -1,5 +1,4 @@
 use Rattle.edits.proofs.Lists.{times_fits, place_fits, end_fits, record_room, edit_not, edit_is}
-use borrow.Author.Rules.{rules}
 use Rattle.edits.proofs.edit_at.Goals as goal
 
 pub overflow_mul-at : goal.overflow_mul-at

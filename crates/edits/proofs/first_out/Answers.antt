@@ -1,7 +1,5 @@
-use Prim.Native.Nat.{◌-◌}
-use lib.ListN.{length}
 use borrow.Author.Rules.{rules}
-use Rattle.edits.proofs.Lists.{Ahead, ahead_start, ahead_part, ahead_more, ahead_out, ahead_end}
+use Rattle.edits.proofs.Lists.{ahead_start, ahead_part, ahead_more, ahead_out, ahead_end}
 use Rattle.edits.proofs.first_out.Goals as goal
 
 pub loop-at-init : goal.loop-at-init

@@ -1,5 +1,4 @@
 use Rattle.edits.proofs.Laws.{no_log, no_force, no_previous, no_new, change_in_lem}
-use borrow.Author.Rules.{rules}
 use Rattle.edits.proofs.get_change.Goals as goal
 
 pub returns-in_default : goal.returns-in_default

@@ -1,5 +1,4 @@
 use Rattle.edits.proofs.Laws.{no_deref, no_change, edit_in_lem}
-use borrow.Author.Rules.{rules}
 use Rattle.edits.proofs.get_edit.Goals as goal
 
 pub returns-then-deref-gt1 : goal.returns-then-deref-gt1

@@ -1,5 +1,4 @@
 use Rattle.edits.proofs.Laws.{target_in}
-use borrow.Author.Rules.{rules}
 use Rattle.edits.proofs.get_target.Goals as goal
 
 pub returns : goal.returns

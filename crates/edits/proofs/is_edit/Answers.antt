@@ -1,5 +1,4 @@
 use Rattle.edits.proofs.Laws.{is_not_edit, is_an_edit}
-use borrow.Author.Rules.{rules}
 use Rattle.edits.proofs.is_edit.Goals as goal
 
 pub returns-in_default : goal.returns-in_default

@@ -1,5 +1,4 @@
 use Rattle.edits.proofs.Lists.{not_framed, is_framed_lem, are_edits}
-use borrow.Author.Rules.{rules}
 use Rattle.edits.proofs.is_list.Goals as goal
 
 pub returns-then-not-is_framed : goal.returns-then-not-is_framed

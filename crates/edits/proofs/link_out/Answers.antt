@@ -1,5 +1,4 @@
 use Rattle.edits.proofs.Laws.{no_link, link}
-use borrow.Author.Rules.{rules}
 use Rattle.edits.proofs.link_out.Goals as goal
 
 pub returns-then-byte_at-ne-SYMBOLIC : goal.returns-then-byte_at-ne-SYMBOLIC

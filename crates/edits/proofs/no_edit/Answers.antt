@@ -1,5 +1,4 @@
 use Rattle.edits.proofs.Laws.{no_edit_lem}
-use borrow.Author.Rules.{rules}
 use Rattle.edits.proofs.no_edit.Goals as goal
 
 pub returns : goal.returns

@@ -1,5 +1,4 @@
 use Rattle.edits.proofs.Numbers.{expected_out, new_out, name_in_lem, name_out}
-use borrow.Author.Rules.{rules}
 use Rattle.edits.proofs.number_out.Goals as goal
 
 pub returns-then-link_out : goal.returns-then-link_out

@@ -1,5 +1,4 @@
 use Rattle.edits.proofs.Laws.{low_link, low_other}
-use borrow.Author.Rules.{rules}
 use Rattle.edits.proofs.target_low.Goals as goal
 
 pub returns-then-kind-eq-SYMBOLIC : goal.returns-then-kind-eq-SYMBOLIC

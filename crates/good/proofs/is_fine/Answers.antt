@@ -1,6 +1,5 @@
 use Rattle.std.specs.Prelude.{not}
 use Rattle.std.proofs.Common.{ap}
-use borrow.Author.Rules.{rules}
 use Rattle.rows.proofs.Named.{rows_named}
 use Rattle.good.proofs.Laws.{names_fail, lines_fail, rows_fail, locks_fail, room_fails, nests_decide}
 use Rattle.good.proofs.is_fine.Goals as goal

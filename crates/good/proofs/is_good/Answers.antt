@@ -1,4 +1,3 @@
-use borrow.Author.Rules.{rules}
 use Rattle.good.proofs.Laws.{not_laid, is_laid, laid_good}
 use Rattle.good.proofs.is_good.Goals as goal
 

@@ -1,11 +1,4 @@
-use borrow.Author.Rules.{rules}
-use mathlib.Core.Path.{◌≡◌, refl}
 use Prim.Native.Nat.{◌-◌}
-use lib.ListN.{drop}
-use Rattle.region.specs.Region.{view}
-use Rattle.model.specs.Basic.{any}
-use Rattle.model.specs.Store.{rows_in}
-use Rattle.kept.specs.Counting.{counting}
 use Rattle.rows.proofs.Laws.{any_more, any_here, any_end}
 use Rattle.kept.proofs.any_counting.Goals as goal
 

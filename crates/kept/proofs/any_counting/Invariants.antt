@@ -1,12 +1,10 @@
-use borrow.Author.Rules.{rules}
-use mathlib.Core.Path.{◌≡◌, refl}
+use mathlib.Core.Path.{◌≡◌}
 use Prim.Native.Nat.{◌-◌}
 use lib.ListN.{drop}
 use Rattle.region.specs.Region.{view}
 use Rattle.model.specs.Basic.{any}
 use Rattle.model.specs.Store.{rows_in}
 use Rattle.kept.specs.Counting.{counting}
-use Rattle.rows.proofs.Laws.{any_more, any_here, any_end}
 use Rattle.kept.proofs.any_counting.Given as goal
 
 abbrev pub invariant-loop-i : goal.invariant-loop-i

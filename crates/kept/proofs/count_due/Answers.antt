@@ -1,5 +1,4 @@
 use Rattle.word.proofs.Flags.{all_down}
-use borrow.Author.Rules.{rules}
 use Rattle.kept.proofs.count_due.Goals as goal
 
 pub flag_lines-requires-clause-flags : goal.flag_lines-requires-clause-flags

@@ -1,5 +1,4 @@
 use native.Mathlib.Omega.{arith}
-use borrow.Author.Rules.{rules}
 use Rattle.kept.proofs.Says.{no_line_lem, one_line}
 use Rattle.kept.proofs.count_due_row.Goals as goal
 

@@ -1,11 +1,5 @@
-use borrow.Author.Rules.{rules}
-use mathlib.Core.Path.{◌≡◌}
 use native.Mathlib.Omega.{arith}
-use Prim.Native.Nat.{◌+◌, ◌-◌, ◌≤◌}
-use lib.ListN.{length, drop}
-use Rattle.region.specs.Region.{view}
-use Rattle.model.specs.Store.{rows_in}
-use Rattle.model.specs.Due.{due_lines}
+use Prim.Native.Nat.{◌-◌}
 use Rattle.kept.proofs.Laws.{sum_start, sum_more, sum_end}
 use Rattle.kept.proofs.count_flagged.Goals as goal
 

@@ -1,12 +1,9 @@
-use borrow.Author.Rules.{rules}
 use mathlib.Core.Path.{◌≡◌}
-use native.Mathlib.Omega.{arith}
 use Prim.Native.Nat.{◌+◌, ◌-◌, ◌≤◌}
 use lib.ListN.{length, drop}
 use Rattle.region.specs.Region.{view}
 use Rattle.model.specs.Store.{rows_in}
 use Rattle.model.specs.Due.{due_lines}
-use Rattle.kept.proofs.Laws.{sum_start, sum_more, sum_end}
 use Rattle.kept.proofs.count_flagged.Given as goal
 
 abbrev pub invariant-loop-i : goal.invariant-loop-i

@@ -1,5 +1,4 @@
 use Rattle.kept.proofs.Laws.{row_passed, row_raised}
-use borrow.Author.Rules.{rules}
 use Rattle.kept.proofs.flag_row.Goals as goal
 
 pub returns-then-not-keeps_lock : goal.returns-then-not-keeps_lock

@@ -3,8 +3,7 @@ use Rattle.region.specs.Region.{view}
 use Rattle.model.specs.Store.{rows_in}
 use Rattle.model.specs.Rows.{keeps_lock}
 use Rattle.rows.proofs.Gather.{Gathering}
-use Rattle.kept.proofs.Laws.{of_row, rows_start, rows_more, rows_end}
-use borrow.Author.Rules.{rules}
+use Rattle.kept.proofs.Laws.{of_row}
 use Rattle.kept.proofs.flag_rows.Given as goal
 
 abbrev pub invariant-loop-i : goal.invariant-loop-i

@@ -1,12 +1,9 @@
-use borrow.Author.Rules.{rules}
 use mathlib.Core.Path.{◌≡◌}
 use mathlib.Core.Bool.{true}
-use native.Mathlib.Omega.{arith}
 use Prim.Native.Nat.{◌-◌, ◌≤◌}
 use Rattle.region.specs.Region.{view}
 use Rattle.model.specs.Basic.{below}
 use Rattle.model.specs.Fine.{fine_lock}
-use Rattle.kept.proofs.Laws.{placed, none_below, all_more, all_stop, all_end}
 use Rattle.kept.proofs.flagged_locks_fine.Given as goal
 
 abbrev pub invariant-loop-n : goal.invariant-loop-n

@@ -1,4 +1,3 @@
-use borrow.Author.Rules.{rules}
 use Rattle.kept.proofs.Laws.{counts_update, counts_any}
 use Rattle.kept.proofs.is_counting.Goals as goal
 

@@ -1,4 +1,3 @@
-use borrow.Author.Rules.{rules}
 use Rattle.kept.proofs.is_ours.Goals as goal
 
 pub returns-in-Free : goal.returns-in-Free

@@ -1,5 +1,4 @@
 use Rattle.kept.proofs.Says.{lock_flag}
-use borrow.Author.Rules.{rules}
 use Rattle.kept.proofs.lock_fine.Goals as goal
 
 pub returns : goal.returns

@@ -1,4 +1,3 @@
-use borrow.Author.Rules.{rules}
 use Rattle.kept.proofs.Says.{locks_not, locks_last}
 use Rattle.kept.proofs.locks_fine.Goals as goal
 

@@ -1,5 +1,4 @@
 use Rattle.word.proofs.Flags.{all_down}
-use borrow.Author.Rules.{rules}
 use Rattle.kept.proofs.name_locks_fine.Goals as goal
 
 pub flag_rows-requires-clause-flags : goal.flag_rows-requires-clause-flags

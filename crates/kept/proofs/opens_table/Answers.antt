@@ -1,4 +1,3 @@
-use borrow.Author.Rules.{rules}
 use Rattle.kept.proofs.Says.{opens_not, opens_update, opens_last}
 use Rattle.kept.proofs.opens_table.Goals as goal
 

@@ -1,4 +1,3 @@
-use borrow.Author.Rules.{rules}
 use Rattle.kept.proofs.Says.{packed_lock_is}
 use Rattle.kept.proofs.packed_lock_fine.Goals as goal
 

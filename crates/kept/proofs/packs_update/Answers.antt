@@ -1,4 +1,3 @@
-use borrow.Author.Rules.{rules}
 use Rattle.kept.proofs.Says.{packs_not, packs_last}
 use Rattle.kept.proofs.packs_update.Goals as goal
 

@@ -1,4 +1,3 @@
-use borrow.Author.Rules.{rules}
 use Rattle.kept.proofs.Says.{room_is}
 use Rattle.kept.proofs.room_fine.Goals as goal
 

@@ -1,5 +1,4 @@
 use Rattle.layout.proofs.Laws.{mode_bad, rows_bad, counts_rest}
-use borrow.Author.Rules.{rules}
 use Rattle.layout.proofs.counts_ok.Goals as goal
 
 pub returns-then-mode-gt-DELETIONS_AND_NON_SYMBOLIC_UPDATES_REMOVE_LOOSE_SOURCE_REFERENCE : goal.returns-then-mode-gt-DELETIONS_AND_NON_SYMBOLIC_UPDATES_REMOVE_LOOSE_SOURCE_REFERENCE

@@ -1,5 +1,4 @@
 use Rattle.layout.proofs.Laws.{version_bad, size_bad, setting_bad, names_bad, lines_bad, head_rest}
-use borrow.Author.Rules.{rules}
 use Rattle.layout.proofs.head_ok.Goals as goal
 
 pub returns-then-get_at-ne-VERSION : goal.returns-then-get_at-ne-VERSION

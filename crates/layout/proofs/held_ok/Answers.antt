@@ -1,4 +1,3 @@
-use borrow.Author.Rules.{rules}
 use Rattle.layout.proofs.Laws.{wide, table_held_lem}
 use Rattle.layout.proofs.held_ok.Goals as goal
 

@@ -1,4 +1,3 @@
-use borrow.Author.Rules.{rules}
 use Rattle.layout.proofs.Laws.{layout_size, layout_head, head_passed, layout_tables}
 use Rattle.layout.proofs.is_laid.Goals as goal
 

@@ -1,4 +1,3 @@
-use borrow.Author.Rules.{rules}
 use Rattle.layout.proofs.Laws.{lock_bad, lock_held}
 use Rattle.layout.proofs.lock_ok.Goals as goal
 

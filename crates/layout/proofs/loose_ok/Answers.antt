@@ -1,4 +1,3 @@
-use borrow.Author.Rules.{rules}
 use Rattle.layout.proofs.Laws.{loose_bad, loose_held}
 use Rattle.layout.proofs.loose_ok.Goals as goal
 

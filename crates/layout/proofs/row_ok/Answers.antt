@@ -1,4 +1,3 @@
-use borrow.Author.Rules.{rules}
 use Rattle.layout.proofs.Laws.{row_bad, row_held}
 use Rattle.layout.proofs.row_ok.Goals as goal
 

@@ -1,11 +1,5 @@
-use mathlib.Core.Bool.{true}
-use mathlib.Core.Path.{◌≡◌}
-use Prim.Native.Nat.{◌-◌, ◌≤◌}
 use native.Mathlib.Omega.{arith}
-use borrow.Author.Rules.{rules}
-use Rattle.word.specs.Codec.{ok_table}
 use Rattle.word.proofs.Codec.{ok_table_none}
-use Rattle.layout.specs.Tables.{test_of}
 use Rattle.layout.proofs.Laws.{slot_offset, slot_from, slot_to, slot_order, slot_last, slot_wide, table_more, table_stop}
 use Rattle.layout.proofs.Laws.{free_offset, free_from, free_order, end_offset, end_at, table_rest}
 use Rattle.layout.proofs.slots_ok.Goals as goal

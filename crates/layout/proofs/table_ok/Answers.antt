@@ -1,4 +1,3 @@
-use borrow.Author.Rules.{rules}
 use Rattle.layout.proofs.Laws.{table_within, table_below, table_short, table_whole}
 use Rattle.layout.proofs.table_ok.Goals as goal
 

@@ -1,6 +1,5 @@
 use Rattle.layout.proofs.Laws.{names_fail, looses_fail, packeds_fail, locks_fail, rows_fail, tables_rest}
 use Rattle.layout.proofs.Laws.{names_few, rows_few, lines_few}
-use borrow.Author.Rules.{rules}
 use Rattle.layout.proofs.tables_ok.Goals as goal
 
 pub table_ok-requires-clause-n_bound : goal.table_ok-requires-clause-n_bound

@@ -1,5 +1,4 @@
 use native.Mathlib.Omega.{arith}
-use borrow.Author.Rules.{rules}
 use Rattle.layout.proofs.Laws.{text_long, text_held}
 use Rattle.layout.proofs.text_ok.Goals as goal
 

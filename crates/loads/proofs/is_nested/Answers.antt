@@ -1,4 +1,3 @@
-use borrow.Author.Rules.{rules}
 use Rattle.loads.proofs.Laws.{nests_none, nests_under, nests_over}
 use Rattle.loads.proofs.is_nested.Goals as goal
 

@@ -1,4 +1,3 @@
-use borrow.Author.Rules.{rules}
 use Rattle.loads.proofs.Laws.{no_link, link_stray, link_known}
 use Rattle.loads.proofs.is_stray_link.Goals as goal
 

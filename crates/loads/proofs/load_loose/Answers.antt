@@ -1,6 +1,4 @@
-use borrow.Author.Rules.{rules}
 use Rattle.calls.proofs.Replies.{good_laid, bad_region}
-use Rattle.calls.proofs.Known.{near}
 use Rattle.loads.proofs.Laws.{loose_busy, loose_far, loose_stray, loose_bad, loose_nested, loose_room, loose_done}
 use Rattle.loads.proofs.load_loose.Goals as goal
 

@@ -1,6 +1,4 @@
-use borrow.Author.Rules.{rules}
 use Rattle.calls.proofs.Replies.{good_laid, bad_region}
-use Rattle.calls.proofs.Known.{near}
 use Rattle.loads.proofs.Laws.{packed_busy, packed_far, packed_bad, packed_room, packed_done}
 use Rattle.loads.proofs.load_packed.Goals as goal
 

@@ -1,4 +1,3 @@
-use borrow.Author.Rules.{rules}
 use Rattle.calls.proofs.Replies.{bad_region, good_laid}
 use Rattle.locks.proofs.Laws.{lifted_so}
 use Rattle.locks.proofs.lift_lock.Goals as goal

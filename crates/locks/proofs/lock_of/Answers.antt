@@ -1,4 +1,3 @@
-use borrow.Author.Rules.{rules}
 use Rattle.locks.proofs.Laws.{there_near, lock_name_lem, lock_table}
 use Rattle.locks.proofs.lock_of.Goals as goal
 

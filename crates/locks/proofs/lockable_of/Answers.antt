@@ -1,4 +1,3 @@
-use borrow.Author.Rules.{rules}
 use Rattle.locks.proofs.Laws.{kind_name_far, kind_name, kind_table, kind_other}
 use Rattle.locks.proofs.lockable_of.Goals as goal
 

@@ -1,4 +1,3 @@
-use borrow.Author.Rules.{rules}
 use Rattle.calls.proofs.Replies.{bad_region, good_laid}
 use Rattle.locks.proofs.Laws.{placed_so}
 use Rattle.locks.proofs.place_lock.Goals as goal

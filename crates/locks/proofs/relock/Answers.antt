@@ -1,4 +1,3 @@
-use borrow.Author.Rules.{rules}
 use Rattle.locks.proofs.Laws.{found_there, relock_wrong, relock_refused, relock_done}
 use Rattle.locks.proofs.relock.Goals as goal
 

@@ -1,4 +1,3 @@
-use borrow.Author.Rules.{rules}
 use Rattle.locks.proofs.Laws.{same_bytes_lem}
 use Rattle.locks.proofs.same_lock.Goals as goal
 

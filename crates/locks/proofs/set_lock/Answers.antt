@@ -1,4 +1,3 @@
-use borrow.Author.Rules.{rules}
 use Rattle.locks.proofs.Laws.{there_near, set_name, set_table}
 use Rattle.locks.proofs.set_lock.Goals as goal
 

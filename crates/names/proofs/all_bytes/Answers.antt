@@ -1,9 +1,3 @@
-use borrow.Author.Rules.{rules}
-use lib.ListN.{length, drop}
-use mathlib.Core.Path.{◌≡◌, refl}
-use Prim.Native.Nat.{◌-◌}
-use Rattle.model.specs.Basic.{all}
-use Rattle.names.specs.Parts.{is_byte_of}
 use Rattle.names.proofs.Components.{all_stop, all_more, all_end}
 use Rattle.names.proofs.all_bytes.Goals as goal
 

@@ -1,12 +1,8 @@
-use borrow.Author.Rules.{rules}
 use lib.ListN.{length}
-use mathlib.Core.Path.{◌≡◌, refl}
-use native.Mathlib.Omega.{arith}
+use mathlib.Core.Path.{◌≡◌}
 use Prim.Native.Nat.{◌≤◌}
 use Rattle.model.specs.Basic.{all}
 use Rattle.model.specs.Names.{is_component, components}
-use Rattle.names.proofs.Components.{parts_stop, parts_end, parts_more}
-use Rattle.names.proofs.Pieces.{byte_within, parts_first, parts_left, parts_less, parts_short}
 use Rattle.names.proofs.are_components.Given as goal
 
 abbrev pub invariant-loop-rest : goal.invariant-loop-rest

@@ -1,4 +1,3 @@
-use borrow.Author.Rules.{rules}
 use Rattle.names.proofs.Syntax.{byte_component, byte_upper}
 use Rattle.names.proofs.is_byte_of.Goals as goal
 

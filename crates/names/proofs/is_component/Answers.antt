@@ -1,4 +1,3 @@
-use borrow.Author.Rules.{rules}
 use Rattle.names.proofs.Syntax.{component_none, component_byte, component_dot, component_last}
 use Rattle.names.proofs.is_component.Goals as goal
 

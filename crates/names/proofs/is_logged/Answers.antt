@@ -1,4 +1,3 @@
-use borrow.Author.Rules.{rules}
 use Rattle.names.proofs.Prefixes.{logs_never, logs_as}
 use Rattle.names.proofs.is_logged.Goals as goal
 

@@ -1,4 +1,3 @@
-use borrow.Author.Rules.{rules}
 use Rattle.names.proofs.Prefixes.{always_head, always_last}
 use Rattle.names.proofs.is_logged_always.Goals as goal
 

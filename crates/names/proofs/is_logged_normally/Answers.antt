@@ -1,4 +1,3 @@
-use borrow.Author.Rules.{rules}
 use Rattle.names.proofs.Prefixes.{normal_head, normal_branch, normal_remote, normal_last}
 use Rattle.names.proofs.is_logged_normally.Goals as goal
 

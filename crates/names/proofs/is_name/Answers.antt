@@ -1,4 +1,3 @@
-use borrow.Author.Rules.{rules}
 use Rattle.names.proofs.Syntax.{name_none, name_long, name_special, name_ref}
 use Rattle.names.proofs.is_name.Goals as goal
 

@@ -1,4 +1,3 @@
-use borrow.Author.Rules.{rules}
 use Rattle.names.proofs.Prefixes.{packable_not, packable_bisect, packable_worktree, packable_last}
 use Rattle.names.proofs.is_packable.Goals as goal
 

@@ -1,4 +1,3 @@
-use borrow.Author.Rules.{rules}
 use Rattle.names.proofs.Syntax.{ref_long, ref_not, ref_part, ref_dots, ref_last}
 use Rattle.names.proofs.is_ref.Goals as goal
 

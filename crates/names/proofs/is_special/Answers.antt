@@ -1,4 +1,3 @@
-use borrow.Author.Rules.{rules}
 use Rattle.names.proofs.Syntax.{special_none, special_below, special_above, special_rest}
 use Rattle.names.proofs.is_special.Goals as goal
 

@@ -1,4 +1,3 @@
-use borrow.Author.Rules.{rules}
 use Rattle.calls.proofs.Replies.{good_laid, bad_region}
 use Rattle.naming.proofs.Laws.{add_bad, add_found, add_full, count_room, name_room, add_done}
 use Rattle.naming.proofs.add_name.Goals as goal

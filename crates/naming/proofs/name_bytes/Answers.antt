@@ -1,4 +1,3 @@
-use borrow.Author.Rules.{rules}
 use Rattle.calls.proofs.Replies.{bad_region}
 use Rattle.naming.proofs.Laws.{tested, fits_product, fits_base, fits_offset, bytes_done, bytes_far}
 use Rattle.naming.proofs.name_bytes.Goals as goal

@@ -1,4 +1,3 @@
-use borrow.Author.Rules.{rules}
 use Rattle.naming.proofs.Laws.{part_bad, tested}
 use Rattle.naming.proofs.name_part.Goals as goal
 

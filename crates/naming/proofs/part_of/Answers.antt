@@ -1,4 +1,3 @@
-use borrow.Author.Rules.{rules}
 use Rattle.calls.proofs.Known.{near}
 use Rattle.naming.proofs.Laws.{good_is_laid, part_none, part_there}
 use Rattle.naming.proofs.part_of.Goals as goal

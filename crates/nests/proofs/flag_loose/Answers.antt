@@ -1,9 +1,5 @@
 use Prim.Native.Nat.{◌-◌}
-use Rattle.region.specs.Region.{view}
-use Rattle.nests.proofs.Raising.{Raising}
-use Rattle.model.specs.Beneath.{is_loose}
-use borrow.Author.Rules.{rules}
-use Rattle.nests.proofs.Laws.{itself, loose_start, loose_more, loose_end, inside}
+use Rattle.nests.proofs.Laws.{loose_start, loose_more, loose_end}
 use Rattle.nests.proofs.flag_loose.Goals as goal
 
 pub loop-n-init : goal.loop-n-init

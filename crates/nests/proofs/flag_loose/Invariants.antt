@@ -2,8 +2,7 @@ use Prim.Native.Nat.{◌-◌}
 use Rattle.region.specs.Region.{view}
 use Rattle.nests.proofs.Raising.{Raising}
 use Rattle.model.specs.Beneath.{is_loose}
-use borrow.Author.Rules.{rules}
-use Rattle.nests.proofs.Laws.{itself, loose_start, loose_more, loose_end, inside}
+use Rattle.nests.proofs.Laws.{itself}
 use Rattle.nests.proofs.flag_loose.Given as goal
 
 abbrev pub invariant-loop-n : goal.invariant-loop-n

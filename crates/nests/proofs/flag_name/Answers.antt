@@ -1,4 +1,3 @@
-use borrow.Author.Rules.{rules}
 use Rattle.nests.proofs.Laws.{loose_passed, loose_raised}
 use Rattle.nests.proofs.flag_name.Goals as goal
 

@@ -1,4 +1,3 @@
-use borrow.Author.Rules.{rules}
 use Rattle.nests.proofs.Laws.{row_passed, row_raised}
 use Rattle.nests.proofs.flag_row.Goals as goal
 

@@ -1,8 +1,5 @@
 use Prim.Native.Nat.{◌-◌}
-use Rattle.region.specs.Region.{view}
-use Rattle.nests.proofs.Raising.{Raising}
-use borrow.Author.Rules.{rules}
-use Rattle.nests.proofs.Laws.{named, wanted, rows_start, rows_more, rows_end, inside}
+use Rattle.nests.proofs.Laws.{rows_start, rows_more, rows_end}
 use Rattle.nests.proofs.flag_rows.Goals as goal
 
 pub loop-i-init : goal.loop-i-init

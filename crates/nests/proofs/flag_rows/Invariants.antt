@@ -1,8 +1,7 @@
 use Prim.Native.Nat.{◌-◌}
 use Rattle.region.specs.Region.{view}
 use Rattle.nests.proofs.Raising.{Raising}
-use borrow.Author.Rules.{rules}
-use Rattle.nests.proofs.Laws.{named, wanted, rows_start, rows_more, rows_end, inside}
+use Rattle.nests.proofs.Laws.{named, wanted}
 use Rattle.nests.proofs.flag_rows.Given as goal
 
 abbrev pub invariant-loop-i : goal.invariant-loop-i

@@ -1,4 +1,3 @@
-use borrow.Author.Rules.{rules}
 use Rattle.nests.proofs.Laws.{size_passed, size_raised, placed}
 use Rattle.nests.proofs.flag_size.Goals as goal
 

@@ -2,8 +2,7 @@ use Prim.Native.Nat.{◌-◌}
 use Rattle.region.specs.Region.{view}
 use Rattle.nests.proofs.Raising.{Raising}
 use Rattle.nests.specs.Under.{is_up}
-use borrow.Author.Rules.{rules}
-use Rattle.nests.proofs.Laws.{size_at, sizes_start, sizes_more, sizes_end, inside}
+use Rattle.nests.proofs.Laws.{size_at}
 use Rattle.nests.proofs.flag_sizes.Given as goal
 
 abbrev pub invariant-loop-m : goal.invariant-loop-m

@@ -1,8 +1,4 @@
 use Prim.Native.Nat.{◌-◌}
-use lib.ListN.{length}
-use Rattle.word.proofs.Tests.{Unmet}
-use Rattle.nests.specs.Under.{slashed}
-use borrow.Author.Rules.{rules}
 use Rattle.nests.proofs.Laws.{slash_start, slash_more, slash_here, slash_end}
 use Rattle.nests.proofs.has_slash_at.Goals as goal
 

@@ -2,8 +2,6 @@ use Prim.Native.Nat.{◌-◌}
 use lib.ListN.{length}
 use Rattle.word.proofs.Tests.{Unmet}
 use Rattle.nests.specs.Under.{slashed}
-use borrow.Author.Rules.{rules}
-use Rattle.nests.proofs.Laws.{slash_start, slash_more, slash_here, slash_end}
 use Rattle.nests.proofs.has_slash_at.Given as goal
 
 abbrev pub invariant-loop-i : goal.invariant-loop-i

@@ -1,4 +1,3 @@
-use borrow.Author.Rules.{rules}
 use Rattle.nests.proofs.Laws.{chosen_any, chosen_will}
 use Rattle.nests.proofs.is_chosen.Goals as goal
 

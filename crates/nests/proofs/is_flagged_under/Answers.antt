@@ -1,4 +1,3 @@
-use borrow.Author.Rules.{rules}
 use Rattle.nests.proofs.Laws.{flagged_not, flagged_unslashed, flagged_under_lem, placed}
 use Rattle.nests.proofs.is_flagged_under.Goals as goal
 

@@ -1,4 +1,3 @@
-use borrow.Author.Rules.{rules}
 use Rattle.nests.proofs.Laws.{slash_not, slash_flag}
 use Rattle.nests.proofs.is_slash_at.Goals as goal
 

@@ -2,8 +2,6 @@ use Prim.Native.Nat.{◌-◌}
 use Rattle.word.proofs.Tests.{Unmet}
 use Rattle.region.specs.Region.{view}
 use Rattle.nests.specs.Under.{under_one}
-use borrow.Author.Rules.{rules}
-use Rattle.nests.proofs.Laws.{under_start, under_more, under_here, under_end, inside}
 use Rattle.nests.proofs.is_under.Given as goal
 
 abbrev pub invariant-loop-m : goal.invariant-loop-m

@@ -1,4 +1,3 @@
-use borrow.Author.Rules.{rules}
 use Rattle.nests.proofs.Laws.{under_not, under_lies}
 use Rattle.nests.proofs.is_under_one.Goals as goal
 

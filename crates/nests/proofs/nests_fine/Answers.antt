@@ -1,5 +1,4 @@
 use Rattle.word.proofs.Flags.{all_down}
-use borrow.Author.Rules.{rules}
 use Rattle.nests.proofs.Laws.{few_names, nests_loose, nests_none, nests_rows}
 use Rattle.nests.proofs.nests_fine.Goals as goal
 

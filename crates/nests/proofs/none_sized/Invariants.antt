@@ -2,8 +2,6 @@ use Prim.Native.Nat.{◌-◌}
 use Rattle.word.proofs.Tests.{Unmet}
 use Rattle.region.specs.Region.{view}
 use Rattle.nests.specs.Under.{flagged_under}
-use borrow.Author.Rules.{rules}
-use Rattle.nests.proofs.Laws.{none_start, none_more, none_here, none_end, inside}
 use Rattle.nests.proofs.none_sized.Given as goal
 
 abbrev pub invariant-loop-n : goal.invariant-loop-n

@@ -1,5 +1,4 @@
 use Rattle.word.proofs.Flags.{all_down}
-use borrow.Author.Rules.{rules}
 use Rattle.nests.proofs.none_under.Goals as goal
 
 pub flag_sizes-requires-clause-flags : goal.flag_sizes-requires-clause-flags

@@ -1,6 +1,5 @@
 use Rattle.word.proofs.Flags.{all_down}
 use Rattle.nests.proofs.Rows.{rows_under, rows_over, rows_among}
-use borrow.Author.Rules.{rules}
 use Rattle.nests.proofs.Laws.{few_names}
 use Rattle.nests.proofs.rows_clear.Goals as goal
 

@@ -1,9 +1,7 @@
-use mathlib.Core.Path.{◌≡◌, refl}
-use Prim.Native.Nat.{◌≤◌}
+use mathlib.Core.Path.{refl}
 use native.Mathlib.Omega.{arith}
-use lib.ListN.{length, length-set}
+use lib.ListN.{length-set}
 use borrow.Author.Rules.{rules}
-use Rattle.ordering.specs.Order.{Opened}
 use Rattle.ordering.proofs.Opens.{open_start, open_more, open_end}
 use Rattle.ordering.proofs.open.Goals as goal
 

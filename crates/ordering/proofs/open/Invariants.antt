@@ -1,10 +1,7 @@
-use mathlib.Core.Path.{◌≡◌, refl}
+use mathlib.Core.Path.{◌≡◌}
 use Prim.Native.Nat.{◌≤◌}
-use native.Mathlib.Omega.{arith}
-use lib.ListN.{length, length-set}
-use borrow.Author.Rules.{rules}
+use lib.ListN.{length}
 use Rattle.ordering.specs.Order.{Opened}
-use Rattle.ordering.proofs.Opens.{open_start, open_more, open_end}
 use Rattle.ordering.proofs.open.Given as goal
 
 -- `open` meets its contract: the numbers from i on have moved. Assumes nothing.

@@ -1,8 +1,7 @@
 use Prim.Native.Nat.{◌+◌, ◌-◌, ◌/◌}
 use native.Mathlib.Omega.{arith}
 use borrow.Author.Rules.{rules}
-use Rattle.region.specs.Region.{view}
-use Rattle.ordering.proofs.Places.{Narrowed, narrow_start, narrow_down, narrow_up, narrow_end}
+use Rattle.ordering.proofs.Places.{narrow_start, narrow_down, narrow_up, narrow_end}
 use Rattle.ordering.proofs.place.Goals as goal
 
 pub loop-low-init : goal.loop-low-init

@@ -1,8 +1,6 @@
-use Prim.Native.Nat.{◌+◌, ◌-◌, ◌/◌}
-use native.Mathlib.Omega.{arith}
-use borrow.Author.Rules.{rules}
+use Prim.Native.Nat.{◌-◌}
 use Rattle.region.specs.Region.{view}
-use Rattle.ordering.proofs.Places.{Narrowed, narrow_start, narrow_down, narrow_up, narrow_end}
+use Rattle.ordering.proofs.Places.{Narrowed}
 use Rattle.ordering.proofs.place.Given as goal
 
 -- `place` meets its contract: it lies from `low` to `high`, and each turn halves what lies between. Assumes nothing.

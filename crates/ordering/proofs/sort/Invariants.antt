@@ -1,10 +1,7 @@
 use Prim.Native.Nat.{◌≤◌}
-use native.Mathlib.Omega.{arith}
-use borrow.Author.Rules.{rules}
 use Rattle.model.specs.Store.{count}
 use Rattle.region.specs.Region.{view}
 use Rattle.ordering.specs.Order.{Ordered}
-use Rattle.ordering.proofs.Sorts.{good_laid, order_start, order_next, order_end}
 use Rattle.ordering.proofs.sort.Given as goal
 
 -- `sort` meets its contract: the entries from n on are sorted. Assumes nothing.

@@ -1,4 +1,3 @@
-use borrow.Author.Rules.{rules}
 use Rattle.ordering.proofs.Sorts.{good_laid, order_rises, order_same, order_more, name_below_lem}
 use Rattle.ordering.proofs.sort_in.Goals as goal
 

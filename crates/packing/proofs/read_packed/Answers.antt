@@ -1,7 +1,5 @@
 use Rattle.std.specs.Prelude.{not}
 use Rattle.std.proofs.Common.{ap}
-use borrow.Author.Rules.{rules}
-use native.Mathlib.Omega.{arith}
 use Rattle.calls.proofs.Replies.{good_laid, bad_region}
 use Rattle.packing.proofs.Read.{read_busy, checked_lines, read_full, read_malformed, read_unpackable, read_loads, read_done}
 use Rattle.packing.proofs.read_packed.Goals as goal

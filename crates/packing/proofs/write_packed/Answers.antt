@@ -1,4 +1,3 @@
-use borrow.Author.Rules.{rules}
 use Rattle.calls.proofs.Replies.{good_laid}
 use Rattle.packing.proofs.Write.{ordered_few, ordered_there, write_bad, write_good, write_short, write_room, write_done}
 use Rattle.packing.proofs.write_packed.Goals as goal

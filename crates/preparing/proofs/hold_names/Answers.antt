@@ -1,9 +1,7 @@
-use mathlib.Core.Path.{◌≡◌, refl}
+use mathlib.Core.Path.{refl}
 use Prim.Native.Nat.{◌-◌}
-use lib.ListN.{length}
 use borrow.Author.Rules.{rules}
-use Rattle.region.specs.Region.{view, Laid}
-use Rattle.preparing.proofs.Holding.{Held, held_start, held_row, held_name, turn_held, names_held_lem}
+use Rattle.preparing.proofs.Holding.{held_start, held_row, held_name, turn_held, names_held_lem}
 use Rattle.preparing.proofs.hold_names.Goals as goal
 
 pub loop-i-init : goal.loop-i-init

@@ -1,9 +1,8 @@
-use mathlib.Core.Path.{◌≡◌, refl}
+use mathlib.Core.Path.{◌≡◌}
 use Prim.Native.Nat.{◌-◌}
 use lib.ListN.{length}
-use borrow.Author.Rules.{rules}
 use Rattle.region.specs.Region.{view, Laid}
-use Rattle.preparing.proofs.Holding.{Held, held_start, held_row, held_name, turn_held, names_held_lem}
+use Rattle.preparing.proofs.Holding.{Held}
 use Rattle.preparing.proofs.hold_names.Given as goal
 
 -- `hold_names` meets its contract: the rows before place i hold what they keep. Assumes nothing.

@@ -1,4 +1,3 @@
-use borrow.Author.Rules.{rules}
 use Rattle.preparing.proofs.Holding.{row_passed, row_held, row_name}
 use Rattle.preparing.proofs.hold_row.Goals as goal
 

@@ -1,4 +1,3 @@
-use borrow.Author.Rules.{rules}
 use Rattle.preparing.proofs.Holding.{table_named, rows_counted, both_held}
 use Rattle.preparing.proofs.hold_rows.Goals as goal
 

@@ -1,4 +1,3 @@
-use borrow.Author.Rules.{rules}
 use Rattle.preparing.proofs.Holding.{table_passed, table_held_lem}
 use Rattle.preparing.proofs.hold_table.Goals as goal
 

@@ -1,4 +1,3 @@
-use borrow.Author.Rules.{rules}
 use Rattle.preparing.proofs.Judging.{uncounted, counted}
 use Rattle.preparing.proofs.is_table_held.Goals as goal
 

@@ -1,4 +1,3 @@
-use borrow.Author.Rules.{rules}
 use Rattle.preparing.proofs.Preparing.{begun_registered, begun_prepared, begun_empty, begun}
 use Rattle.preparing.proofs.judge_list.Goals as goal
 

@@ -1,4 +1,3 @@
-use borrow.Author.Rules.{rules}
 use Rattle.preparing.proofs.Judging.{names_twice, names_held_lem, names_free}
 use Rattle.preparing.proofs.judge_names.Goals as goal
 

@@ -1,4 +1,3 @@
-use borrow.Author.Rules.{rules}
 use Rattle.preparing.proofs.Judging.{rows_refused, rows_upward, rows_judged}
 use Rattle.preparing.proofs.judge_rows.Goals as goal
 

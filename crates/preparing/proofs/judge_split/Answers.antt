@@ -1,4 +1,3 @@
-use borrow.Author.Rules.{rules}
 use Rattle.preparing.proofs.Judging.{split_named, split_turned}
 use Rattle.preparing.proofs.judge_split.Goals as goal
 

@@ -1,4 +1,3 @@
-use borrow.Author.Rules.{rules}
 use Rattle.preparing.proofs.Judging.{turns_refused, turns_full, turns_room}
 use Rattle.preparing.proofs.judge_turns.Goals as goal
 

@@ -1,4 +1,3 @@
-use borrow.Author.Rules.{rules}
 use Rattle.calls.proofs.Replies.{good_laid, good_fine, bad_region}
 use Rattle.preparing.proofs.Preparing.{idle_none, prepare_busy, prepare_done}
 use Rattle.preparing.proofs.prepare.Goals as goal

@@ -1,4 +1,3 @@
-use borrow.Author.Rules.{rules}
 use Rattle.preparing.proofs.Preparing.{formed_is, idle_unformed, idle_unmoded, idle_done}
 use Rattle.preparing.proofs.prepare_idle.Goals as goal
 

@@ -1,4 +1,3 @@
-use borrow.Author.Rules.{rules}
 use Rattle.preparing.proofs.Preparing.{all_in, list_out, list_done}
 use Rattle.preparing.proofs.prepare_list.Goals as goal
 

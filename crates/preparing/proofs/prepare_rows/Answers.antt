@@ -1,4 +1,3 @@
-use borrow.Author.Rules.{rules}
 use Rattle.preparing.proofs.Preparing.{refused_back, taken_done, taken_named}
 use Rattle.preparing.proofs.prepare_rows.Goals as goal
 

@@ -1,4 +1,3 @@
-use borrow.Author.Rules.{rules}
 use Rattle.writers.proofs.OtherRows.{still_prepared, rows_seen}
 use Rattle.preparing.proofs.Judging.{split_taken}
 use Rattle.preparing.proofs.split_rows.Goals as goal

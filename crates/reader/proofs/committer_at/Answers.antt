@@ -2,7 +2,6 @@ use Prim.Native.Nat.{◌+◌, ◌≤◌}
 use native.Mathlib.Omega.{arith}
 use lib.ListN.{length}
 use Rattle.reader.proofs.Places.{content_there, from_first_lem, found_at}
-use borrow.Author.Rules.{rules}
 use Rattle.reader.proofs.committer_at.Goals as goal
 
 pub committer_from-found-requires : goal.committer_from-found-requires

@@ -1,5 +1,4 @@
 use Rattle.reader.proofs.Entries.{content_short, content_none, content_past, content_other, content_is}
-use borrow.Author.Rules.{rules}
 use Rattle.reader.proofs.content_of.Goals as goal
 
 pub returns-then-part-lt-CONTENT : goal.returns-then-part-lt-CONTENT

@@ -1,5 +1,4 @@
 use Rattle.reader.proofs.Whole.{entries_log, log_room, entries_mode, mode_room, entries_tail, entries_are}
-use borrow.Author.Rules.{rules}
 use Rattle.reader.proofs.entries_in.Goals as goal
 
 pub returns-in_default : goal.returns-in_default

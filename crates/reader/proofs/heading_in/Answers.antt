@@ -1,5 +1,4 @@
 use Rattle.reader.proofs.Committers.{heading_short, heading_low, heading_empty, heading_long, heading_past, heading_is}
-use borrow.Author.Rules.{rules}
 use Rattle.reader.proofs.heading_in.Goals as goal
 
 pub returns-then-list-lt-NAME : goal.returns-then-list-lt-NAME

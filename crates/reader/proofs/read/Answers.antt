@@ -1,5 +1,4 @@
 use Rattle.reader.proofs.Told.{read_stranger, read_empty, read_unknown, read_newer, read_malformed, read_is}
-use borrow.Author.Rules.{rules}
 use Rattle.reader.proofs.read.Goals as goal
 
 pub returns-then-not-is_version : goal.returns-then-not-is_version

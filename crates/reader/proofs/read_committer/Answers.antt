@@ -1,5 +1,4 @@
 use Rattle.reader.proofs.Found.{found_unknown, found_malformed, found_none, found_lists, found_is}
-use borrow.Author.Rules.{rules}
 use Rattle.reader.proofs.read_committer.Goals as goal
 
 pub returns-then-place-summary : goal.returns-then-place-summary

@@ -1,5 +1,4 @@
 use Rattle.reader.proofs.Whole.{frame_short, rest_fits, frame_other, frame_is}
-use borrow.Author.Rules.{rules}
 use Rattle.reader.proofs.settings_in.Goals as goal
 
 pub returns-then-bytes-lt-ENTRIES : goal.returns-then-bytes-lt-ENTRIES

@@ -1,5 +1,4 @@
 use Rattle.reader.proofs.Whole.{site_none, site_left, site_sized, site_is}
-use borrow.Author.Rules.{rules}
 use Rattle.reader.proofs.site_in.Goals as goal
 
 pub returns-then-part-eq0 : goal.returns-then-part-eq0

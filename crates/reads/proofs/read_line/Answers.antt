@@ -1,6 +1,5 @@
 use Rattle.std.specs.Prelude.{not}
 use Rattle.std.proofs.Common.{ap}
-use borrow.Author.Rules.{rules}
 use Rattle.calls.proofs.Replies.{good_laid, bad_region}
 use Rattle.reads.proofs.Laws.{line_far, line_none, line_done}
 use Rattle.reads.proofs.read_line.Goals as goal

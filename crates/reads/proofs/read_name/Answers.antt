@@ -1,4 +1,3 @@
-use borrow.Author.Rules.{rules}
 use Rattle.calls.proofs.Replies.{good_laid, bad_region}
 use Rattle.reads.proofs.Laws.{name_far, name_done}
 use Rattle.reads.proofs.read_name.Goals as goal

@@ -1,4 +1,3 @@
-use borrow.Author.Rules.{rules}
 use Rattle.calls.proofs.Replies.{good_laid, bad_region}
 use Rattle.reads.proofs.Laws.{row_far, row_near, row_done}
 use Rattle.reads.proofs.read_row.Goals as goal

@@ -1,5 +1,4 @@
 use Rattle.receiver.proofs.Laws.{add_done}
-use borrow.Author.Rules.{rules}
 use Rattle.receiver.proofs.add.Goals as goal
 
 pub returns : goal.returns

@@ -1,5 +1,4 @@
 use Rattle.receiver.proofs.Laws.{held_part}
-use borrow.Author.Rules.{rules}
 use Rattle.receiver.proofs.held.Goals as goal
 
 pub returns : goal.returns

@@ -1,5 +1,4 @@
 use Rattle.receiver.proofs.Laws.{other_size, count_too_large, zeros_decide}
-use borrow.Author.Rules.{rules}
 use Rattle.receiver.proofs.is_good.Goals as goal
 
 pub returns-then-receiver-ne-SIZE : goal.returns-then-receiver-ne-SIZE

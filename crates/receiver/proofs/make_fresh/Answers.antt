@@ -1,5 +1,4 @@
 use Rattle.receiver.proofs.Laws.{fresh_zeros}
-use borrow.Author.Rules.{rules}
 use Rattle.receiver.proofs.make_fresh.Goals as goal
 
 pub returns : goal.returns

@@ -1,5 +1,4 @@
 use Rattle.receiving.proofs.Laws.{close_bad, good_now, good_sized, close_done}
-use borrow.Author.Rules.{rules}
 use Rattle.receiving.proofs.close_receiver.Goals as goal
 
 pub returns-then-not-is_good : goal.returns-then-not-is_good

@@ -1,5 +1,4 @@
 use Rattle.receiving.proofs.Laws.{fresh_size, fresh_done}
-use borrow.Author.Rules.{rules}
 use Rattle.receiving.proofs.fresh_receiver.Goals as goal
 
 pub returns-then-receiver-ne-SIZE : goal.returns-then-receiver-ne-SIZE

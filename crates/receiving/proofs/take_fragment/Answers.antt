@@ -1,5 +1,4 @@
 use Rattle.receiving.proofs.Laws.{take_bad, good_now, held_room, take_full, add_room, take_done}
-use borrow.Author.Rules.{rules}
 use Rattle.receiving.proofs.take_fragment.Goals as goal
 
 pub returns-then-not-is_good : goal.returns-then-not-is_good

@@ -1,5 +1,4 @@
 use Rattle.records.proofs.Laws.{part_answered}
-use borrow.Author.Rules.{rules}
 use Rattle.records.proofs.committer_part.Goals as goal
 
 pub returns : goal.returns

@@ -1,5 +1,4 @@
 use Rattle.records.proofs.Laws.{committer_unknown, committer_malformed, committer_none, committer_found_lem}
-use borrow.Author.Rules.{rules}
 use Rattle.records.proofs.read_committer.Goals as goal
 
 pub returns-in-Unknown : goal.returns-in-Unknown

@@ -1,5 +1,4 @@
 use Rattle.records.proofs.Laws.{settings_unknown, settings_malformed, settings_read}
-use borrow.Author.Rules.{rules}
 use Rattle.records.proofs.read_settings.Goals as goal
 
 pub returns-in-Unknown : goal.returns-in-Unknown

@@ -1,5 +1,4 @@
 use Rattle.records.proofs.Laws.{write_unknown, write_malformed, write_short, write_written}
-use borrow.Author.Rules.{rules}
 use Rattle.records.proofs.write_settings.Goals as goal
 
 pub returns-in-Unknown : goal.returns-in-Unknown

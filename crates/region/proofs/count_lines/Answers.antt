@@ -1,4 +1,3 @@
-use borrow.Author.Rules.{rules}
 use Rattle.region.proofs.ReadLaws.{lines_read}
 use Rattle.region.proofs.count_lines.Goals as goal
 

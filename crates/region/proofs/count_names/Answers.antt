@@ -1,4 +1,3 @@
-use borrow.Author.Rules.{rules}
 use Rattle.region.proofs.ReadLaws.{names_read}
 use Rattle.region.proofs.count_names.Goals as goal
 

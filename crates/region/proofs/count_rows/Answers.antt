@@ -1,4 +1,3 @@
-use borrow.Author.Rules.{rules}
 use Rattle.region.proofs.ReadLaws.{rows_read}
 use Rattle.region.proofs.count_rows.Goals as goal
 

@@ -1,4 +1,3 @@
-use borrow.Author.Rules.{rules}
 use Rattle.region.proofs.ReadLaws.{known_is}
 use Rattle.region.proofs.known.Goals as goal
 

@@ -1,4 +1,3 @@
-use borrow.Author.Rules.{rules}
 use Rattle.region.proofs.ReadLaws.{line_read_lem}
 use Rattle.region.proofs.line_at.Goals as goal
 

@@ -1,4 +1,3 @@
-use borrow.Author.Rules.{rules}
 use Rattle.region.proofs.Read.{name_of_line}
 use Rattle.region.proofs.line_name.Goals as goal
 

@@ -1,4 +1,3 @@
-use borrow.Author.Rules.{rules}
 use Rattle.region.proofs.ReadLaws.{lock_found, lock_missing}
 use Rattle.region.proofs.lock_at.Goals as goal
 

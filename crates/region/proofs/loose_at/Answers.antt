@@ -1,4 +1,3 @@
-use borrow.Author.Rules.{rules}
 use Rattle.region.proofs.ReadLaws.{loose_found, loose_missing}
 use Rattle.region.proofs.loose_at.Goals as goal
 

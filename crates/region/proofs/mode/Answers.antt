@@ -1,4 +1,3 @@
-use borrow.Author.Rules.{rules}
 use Rattle.region.proofs.ReadLaws.{mode_missing, mode_found}
 use Rattle.region.proofs.mode.Goals as goal
 

@@ -1,4 +1,3 @@
-use borrow.Author.Rules.{rules}
 use Rattle.region.proofs.ReadLaws.{number_read}
 use Rattle.region.proofs.mode_number.Goals as goal
 

@@ -1,4 +1,3 @@
-use borrow.Author.Rules.{rules}
 use Rattle.region.proofs.ReadLaws.{name_end, name_end_fits, name_fits, name_is}
 use Rattle.region.proofs.name_at.Goals as goal
 

@@ -1,4 +1,3 @@
-use borrow.Author.Rules.{rules}
 use Rattle.region.proofs.ReadLaws.{no_row_is}
 use Rattle.region.proofs.no_row.Goals as goal
 

@@ -1,4 +1,3 @@
-use borrow.Author.Rules.{rules}
 use Rattle.region.proofs.ReadLaws.{packed_read}
 use Rattle.region.proofs.packed_at.Goals as goal
 

@@ -1,4 +1,3 @@
-use borrow.Author.Rules.{rules}
 use Rattle.region.proofs.ReadLaws.{packed_lock_found, packed_lock_missing}
 use Rattle.region.proofs.packed_lock.Goals as goal
 

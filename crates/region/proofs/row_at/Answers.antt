@@ -1,4 +1,3 @@
-use borrow.Author.Rules.{rules}
 use Rattle.region.proofs.ReadLaws.{row_missing, row_found_lem}
 use Rattle.region.proofs.row_at.Goals as goal
 

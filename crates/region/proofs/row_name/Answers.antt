@@ -1,5 +1,4 @@
 use Rattle.region.proofs.Read.{name_of_row}
-use borrow.Author.Rules.{rules}
 use Rattle.region.proofs.row_name.Goals as goal
 
 pub returns : goal.returns

@@ -1,4 +1,3 @@
-use borrow.Author.Rules.{rules}
 use Rattle.region.proofs.ReadLaws.{setting_always, setting_else, setting_normal}
 use Rattle.region.proofs.setting.Goals as goal
 

@@ -1,4 +1,3 @@
-use borrow.Author.Rules.{rules}
 use Rattle.rows.proofs.Says.{update_not, update_last}
 use Rattle.rows.proofs.counts_as_update.Goals as goal
 

@@ -1,4 +1,3 @@
-use borrow.Author.Rules.{rules}
 use Rattle.rows.proofs.Says.{counts_not, counts_last}
 use Rattle.rows.proofs.counts_row.Goals as goal
 

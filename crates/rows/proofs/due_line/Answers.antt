@@ -1,4 +1,3 @@
-use borrow.Author.Rules.{rules}
 use Rattle.rows.proofs.Lines.{line_still, line_silent, line_due}
 use Rattle.rows.proofs.due_line.Goals as goal
 

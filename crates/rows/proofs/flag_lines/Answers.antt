@@ -1,7 +1,5 @@
-use borrow.Author.Rules.{rules}
 use Prim.Native.Nat.{◌-◌}
-use Rattle.region.specs.Region.{view}
-use Rattle.rows.proofs.Gather.{Gathering, of_line, every, lines_start, lines_more, lines_end}
+use Rattle.rows.proofs.Gather.{lines_start, lines_more, lines_end}
 use Rattle.rows.proofs.flag_lines.Goals as goal
 
 pub loop-i-init : goal.loop-i-init

@@ -1,7 +1,6 @@
-use borrow.Author.Rules.{rules}
 use Prim.Native.Nat.{◌-◌}
 use Rattle.region.specs.Region.{view}
-use Rattle.rows.proofs.Gather.{Gathering, of_line, every, lines_start, lines_more, lines_end}
+use Rattle.rows.proofs.Gather.{Gathering, of_line, every}
 use Rattle.rows.proofs.flag_lines.Given as goal
 
 abbrev pub invariant-loop-i : goal.invariant-loop-i

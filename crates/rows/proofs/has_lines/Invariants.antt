@@ -1,4 +1,3 @@
-use borrow.Author.Rules.{rules}
 use mathlib.Core.Path.{◌≡◌}
 use Prim.Native.Nat.{◌-◌}
 use lib.ListN.{drop}
@@ -6,7 +5,6 @@ use Rattle.region.specs.Region.{view}
 use Rattle.model.specs.Basic.{any}
 use Rattle.model.specs.Store.{is_of}
 use Rattle.model.specs.Due.{has_lines}
-use Rattle.rows.proofs.Laws.{any_more, any_here, any_end, lines_any}
 use Rattle.rows.proofs.has_lines.Given as goal
 
 abbrev pub invariant-loop-i : goal.invariant-loop-i

@@ -1,4 +1,3 @@
-use borrow.Author.Rules.{rules}
 use Rattle.rows.proofs.Says.{direct_not, direct_link, direct_last}
 use Rattle.rows.proofs.is_direct.Goals as goal
 

@@ -1,4 +1,3 @@
-use borrow.Author.Rules.{rules}
 use Rattle.rows.proofs.Gather.{flag_said}
 use Rattle.rows.proofs.is_lined.Goals as goal
 

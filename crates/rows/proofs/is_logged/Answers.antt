@@ -1,4 +1,3 @@
-use borrow.Author.Rules.{rules}
 use Rattle.rows.proofs.Lines.{logged_never, logged_lines, logged_forced, logged_last}
 use Rattle.rows.proofs.is_logged.Goals as goal
 

@@ -1,4 +1,3 @@
-use borrow.Author.Rules.{rules}
 use Rattle.rows.proofs.Says.{keeps_delete, keeps_direct, keeps_link, keeps_last}
 use Rattle.rows.proofs.keeps_lock.Goals as goal
 

@@ -1,4 +1,3 @@
-use borrow.Author.Rules.{rules}
 use Rattle.rows.proofs.Lines.{link_clones}
 use Rattle.rows.proofs.link_move.Goals as goal
 

@@ -1,4 +1,3 @@
-use borrow.Author.Rules.{rules}
 use Rattle.rows.proofs.Lines.{move_object, move_link}
 use Rattle.rows.proofs.move_of.Goals as goal
 

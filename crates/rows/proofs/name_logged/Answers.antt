@@ -1,4 +1,3 @@
-use borrow.Author.Rules.{rules}
 use Rattle.model.specs.Names.{logs}
 use Rattle.rows.proofs.Says.{none_logged, test_past, test_at}
 use Rattle.rows.proofs.name_logged.Goals as goal

@@ -1,4 +1,3 @@
-use borrow.Author.Rules.{rules}
 use Rattle.model.specs.Names.{packable}
 use Rattle.rows.proofs.Says.{none_packable, test_past, test_at}
 use Rattle.rows.proofs.name_packable.Goals as goal

@@ -1,4 +1,3 @@
-use borrow.Author.Rules.{rules}
 use Rattle.rows.proofs.Lines.{moved_not, moved_so}
 use Rattle.rows.proofs.object_move.Goals as goal
 

@@ -1,5 +1,4 @@
 use Rattle.scribe.proofs.Given.{numbers_off, too_many, all_tested}
-use borrow.Author.Rules.{rules}
 use Rattle.scribe.proofs.is_writable.Goals as goal
 
 pub returns-then-not-are_numbers : goal.returns-then-not-are_numbers

@@ -1,5 +1,4 @@
 use Rattle.scribe.proofs.Tests.{length_site, length_none}
-use borrow.Author.Rules.{rules}
 use Rattle.scribe.proofs.length_of.Goals as goal
 
 pub returns-then-version-eq-VERSION_2 : goal.returns-then-version-eq-VERSION_2

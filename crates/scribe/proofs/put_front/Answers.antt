@@ -1,5 +1,4 @@
 use Rattle.scribe.proofs.Written.{front_put}
-use borrow.Author.Rules.{rules}
 use Rattle.scribe.proofs.put_front.Goals as goal
 
 pub returns : goal.returns

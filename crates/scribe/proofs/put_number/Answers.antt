@@ -1,5 +1,4 @@
 use Rattle.scribe.proofs.Written.{number_put}
-use borrow.Author.Rules.{rules}
 use Rattle.scribe.proofs.put_number.Goals as goal
 
 pub returns : goal.returns

@@ -1,6 +1,4 @@
-use mathlib.Core.Logic.{⊎_elim}
-use Rattle.slots.proofs.Laws.{delete_forced, delete_told, delete_is, change_other}
-use borrow.Author.Rules.{rules}
+use Rattle.slots.proofs.Laws.{delete_is, change_other}
 use Rattle.slots.proofs.change_from.Goals as goal
 
 pub returns-in-Absent : goal.returns-in-Absent

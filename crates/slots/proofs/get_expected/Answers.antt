@@ -1,5 +1,4 @@
 use Rattle.slots.proofs.Laws.{no_expected, expected_in}
-use borrow.Author.Rules.{rules}
 use Rattle.slots.proofs.get_expected.Goals as goal
 
 pub returns-in_default : goal.returns-in_default

@@ -1,5 +1,4 @@
 use Rattle.slots.proofs.Laws.{line_in_lem}
-use borrow.Author.Rules.{rules}
 use Rattle.slots.proofs.get_line.Goals as goal
 
 pub returns : goal.returns

@@ -1,5 +1,4 @@
 use Rattle.slots.proofs.Laws.{lock_in_lem}
-use borrow.Author.Rules.{rules}
 use Rattle.slots.proofs.get_lock.Goals as goal
 
 pub returns : goal.returns

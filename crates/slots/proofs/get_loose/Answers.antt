@@ -1,6 +1,5 @@
 use mathlib.Core.Path.{ap₂, ◌∙◌}
 use Rattle.slots.specs.Values.{loose_from, loose_in}
-use borrow.Author.Rules.{rules}
 use Rattle.slots.proofs.get_loose.Goals as goal
 
 pub returns : goal.returns

@@ -1,4 +1,3 @@
-use borrow.Author.Rules.{rules}
 use Rattle.slots.proofs.Laws.{packed_absent, packed_present}
 use Rattle.slots.proofs.get_packed.Goals as goal
 

@@ -1,6 +1,5 @@
 use mathlib.Core.Path.{ap₂, ◌∙◌}
 use Rattle.slots.specs.Row.{parent_from, slot_parent}
-use borrow.Author.Rules.{rules}
 use Rattle.slots.proofs.get_parent.Goals as goal
 
 pub returns : goal.returns

@@ -1,5 +1,4 @@
 use Rattle.slots.proofs.Laws.{row_no_change, row_no_parent, row_in_lem}
-use borrow.Author.Rules.{rules}
 use Rattle.slots.proofs.get_row.Goals as goal
 
 pub returns-in_default : goal.returns-in_default

@@ -1,4 +1,3 @@
-use borrow.Author.Rules.{rules}
 use Rattle.slots.proofs.Laws.{loose_beside_broken, loose_broken, loose_missing, loose_unbroken}
 use Rattle.slots.proofs.loose_from.Goals as goal
 

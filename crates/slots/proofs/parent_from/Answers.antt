@@ -1,4 +1,4 @@
-use Rattle.slots.proofs.Laws.{parent_beside_none, parent_none, parent_other}
+use Rattle.slots.proofs.Laws.{parent_beside_none, parent_none}
 use Rattle.slots.proofs.parent_from.Goals as goal
 
 pub returns-then-place-ne0 : goal.returns-then-place-ne0

@@ -1,4 +1,3 @@
-use borrow.Author.Rules.{rules}
 use Rattle.slots.proofs.Laws.{put_line_is}
 use Rattle.slots.proofs.put_line.Goals as goal
 

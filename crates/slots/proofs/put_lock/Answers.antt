@@ -1,4 +1,3 @@
-use borrow.Author.Rules.{rules}
 use Rattle.slots.proofs.Laws.{put_lock_is}
 use Rattle.slots.proofs.put_lock.Goals as goal
 

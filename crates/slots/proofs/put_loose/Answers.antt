@@ -1,4 +1,3 @@
-use borrow.Author.Rules.{rules}
 use Rattle.slots.proofs.Laws.{put_loose_is}
 use Rattle.slots.proofs.put_loose.Goals as goal
 

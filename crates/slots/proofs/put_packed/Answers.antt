@@ -1,4 +1,3 @@
-use borrow.Author.Rules.{rules}
 use Rattle.slots.proofs.Laws.{put_packed_none, put_packed_object}
 use Rattle.slots.proofs.put_packed.Goals as goal
 

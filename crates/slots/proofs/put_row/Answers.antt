@@ -1,7 +1,4 @@
-use Prim.Native.Nat.{◌-◌}
-use native.Mathlib.Omega.{arith}
-use borrow.Author.Rules.{rules}
-use Rattle.slots.proofs.Laws.{Far, far_start, far_room, far_more, width_fits, far_end}
+use Rattle.slots.proofs.Laws.{far_start, far_room, far_more, width_fits, far_end}
 use Rattle.slots.proofs.put_row.Goals as goal
 
 -- src/lib.rt:482:5

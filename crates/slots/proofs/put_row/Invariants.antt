@@ -1,7 +1,5 @@
 use Prim.Native.Nat.{◌-◌}
-use native.Mathlib.Omega.{arith}
-use borrow.Author.Rules.{rules}
-use Rattle.slots.proofs.Laws.{Far, far_start, far_room, far_more, width_fits, far_end}
+use Rattle.slots.proofs.Laws.{Far}
 use Rattle.slots.proofs.put_row.Given as goal
 
 -- `put_row` meets its contract: the numbers before place i stand before byte `at`. Assumes nothing.

@@ -1,4 +1,3 @@
-use borrow.Author.Rules.{rules}
 use Rattle.slots.proofs.Laws.{row_is}
 use Rattle.slots.proofs.row_numbers.Goals as goal
 

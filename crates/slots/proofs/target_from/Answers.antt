@@ -1,5 +1,4 @@
-use borrow.Author.Rules.{rules}
-use Rattle.slots.proofs.Laws.{target_beside_none, target_none, target_null, target_object, target_far, target_link, target_other}
+use Rattle.slots.proofs.Laws.{target_beside_none, target_none, target_null, target_object, target_far, target_link}
 use Rattle.slots.proofs.target_from.Goals as goal
 
 pub returns-then-number-ne0 : goal.returns-then-number-ne0

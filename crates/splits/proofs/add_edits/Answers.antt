@@ -1,8 +1,4 @@
-use Prim.Native.Nat.{◌-◌}
-use native.Mathlib.Omega.{arith}
-use borrow.Author.Rules.{rules}
-use Rattle.edits.specs.Edits.{edits_in}
-use Rattle.splits.proofs.Edits.{Added, added_start, added_more, added_end, fits_edit}
+use Rattle.splits.proofs.Edits.{added_start, added_more, added_end, fits_edit}
 use Rattle.splits.proofs.add_edits.Goals as goal
 
 pub loop-i-init : goal.loop-i-init

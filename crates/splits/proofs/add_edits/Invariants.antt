@@ -1,8 +1,6 @@
 use Prim.Native.Nat.{◌-◌}
-use native.Mathlib.Omega.{arith}
-use borrow.Author.Rules.{rules}
 use Rattle.edits.specs.Edits.{edits_in}
-use Rattle.splits.proofs.Edits.{Added, added_start, added_more, added_end, fits_edit}
+use Rattle.splits.proofs.Edits.{Added}
 use Rattle.splits.proofs.add_edits.Given as goal
 
 abbrev pub invariant-loop-i : goal.invariant-loop-i

@@ -1,4 +1,3 @@
-use borrow.Author.Rules.{rules}
 use Rattle.word.proofs.Flags.{all_down}
 use Rattle.splits.proofs.Twice.{least_none, least_found}
 use Rattle.splits.proofs.assure_one_name_has_one_edit.Goals as goal

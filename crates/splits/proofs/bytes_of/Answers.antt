@@ -1,4 +1,3 @@
-use borrow.Author.Rules.{rules}
 use Rattle.splits.proofs.Twice.{bytes_none}
 use Rattle.splits.proofs.bytes_of.Goals as goal
 

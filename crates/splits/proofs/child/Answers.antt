@@ -1,4 +1,3 @@
-use borrow.Author.Rules.{rules}
 use Rattle.splits.proofs.Laws.{child_is}
 use Rattle.splits.proofs.child.Goals as goal
 

@@ -1,6 +1,5 @@
 use native.Mathlib.Omega.{arith}
-use borrow.Author.Rules.{rules}
-use Rattle.splits.proofs.Splits.{rows_many, Ahead, ahead_start, ahead_more, taken_cycle, taken_passed}
+use Rattle.splits.proofs.Splits.{rows_many, ahead_start, ahead_more, taken_cycle, taken_passed}
 use Rattle.splits.proofs.extend_with_splits_of_symbolic_refs.Goals as goal
 
 pub split_first-requires-clause-region_len : goal.split_first-requires-clause-region_len

@@ -1,6 +1,4 @@
-use native.Mathlib.Omega.{arith}
-use borrow.Author.Rules.{rules}
-use Rattle.splits.proofs.Splits.{rows_many, Ahead, ahead_start, ahead_more, taken_cycle, taken_passed}
+use Rattle.splits.proofs.Splits.{Ahead}
 use Rattle.splits.proofs.extend_with_splits_of_symbolic_refs.Given as goal
 
 abbrev pub invariant-loop-left : goal.invariant-loop-left

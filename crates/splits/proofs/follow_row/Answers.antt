@@ -1,4 +1,3 @@
-use borrow.Author.Rules.{rules}
 use Rattle.splits.proofs.Laws.{not_followed, is_followed}
 use Rattle.splits.proofs.follow_row.Goals as goal
 

@@ -1,9 +1,3 @@
-use mathlib.Core.Path.{◌≡◌}
-use Prim.Native.Nat.{◌-◌}
-use borrow.Author.Rules.{rules}
-use Rattle.model.specs.Store.{rows_in}
-use Rattle.region.specs.Region.{view}
-use Rattle.splits.specs.Round.{leads_on}
 use Rattle.splits.proofs.Laws.{leads_none, leads_here, leads_later}
 use Rattle.splits.proofs.leads_on.Goals as goal
 

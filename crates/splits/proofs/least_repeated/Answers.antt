@@ -1,11 +1,4 @@
-use mathlib.Core.Path.{◌≡◌}
-use Prim.Native.Nat.{◌≤◌}
-use lib.ListN.{length}
 use borrow.Author.Rules.{rules}
-use Rattle.word.specs.Flags.{Flags}
-use Rattle.model.specs.Store.{rows_in}
-use Rattle.region.specs.Region.{view}
-use Rattle.splits.specs.Twice.{behind, least_from}
 use Rattle.splits.proofs.Twice.{behind_none, flags_of, flags_at, least_start, least_more, least_same, least_end}
 use Rattle.splits.proofs.least_repeated.Goals as goal
 

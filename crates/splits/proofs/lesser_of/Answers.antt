@@ -1,4 +1,3 @@
-use borrow.Author.Rules.{rules}
 use Rattle.splits.proofs.Twice.{lesser_none, lesser_first, lesser_second}
 use Rattle.splits.proofs.lesser_of.Goals as goal
 

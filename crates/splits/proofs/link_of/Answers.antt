@@ -1,4 +1,3 @@
-use borrow.Author.Rules.{rules}
 use Rattle.splits.proofs.Laws.{link_none, link_at}
 use Rattle.splits.proofs.link_of.Goals as goal
 

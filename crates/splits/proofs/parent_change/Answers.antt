@@ -1,4 +1,3 @@
-use borrow.Author.Rules.{rules}
 use Rattle.splits.proofs.Laws.{parent_update, parent_delete}
 use Rattle.splits.proofs.parent_change.Goals as goal
 

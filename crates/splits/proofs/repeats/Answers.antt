@@ -1,4 +1,3 @@
-use borrow.Author.Rules.{rules}
 use Rattle.splits.proofs.Twice.{repeats_so}
 use Rattle.splits.proofs.repeats.Goals as goal
 

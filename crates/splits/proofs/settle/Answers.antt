@@ -1,4 +1,3 @@
-use borrow.Author.Rules.{rules}
 use Rattle.splits.proofs.Laws.{settle_none, settle_link}
 use Rattle.splits.proofs.settle.Goals as goal
 

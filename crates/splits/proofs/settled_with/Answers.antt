@@ -1,4 +1,3 @@
-use borrow.Author.Rules.{rules}
 use Rattle.splits.proofs.Laws.{settled_is}
 use Rattle.splits.proofs.settled_with.Goals as goal
 

@@ -1,10 +1,4 @@
-use Prim.Native.Nat.{◌-◌}
-use native.Mathlib.Omega.{arith}
-use borrow.Author.Rules.{rules}
-use Rattle.edits.specs.Edits.{edits_in}
 use Rattle.splits.proofs.Edits.{first_start, first_more, first_end}
-use Rattle.splits.proofs.Model.{asked}
-use Rattle.splits.proofs.Table.{Far}
 use Rattle.splits.proofs.split_first.Goals as goal
 
 pub loop-i-init : goal.loop-i-init

@@ -1,9 +1,4 @@
-use mathlib.Core.Bool.{true}
-use Prim.Native.Nat.{◌-◌}
-use native.Mathlib.Omega.{arith}
-use lib.ListN.{replicate}
-use borrow.Author.Rules.{rules}
-use Rattle.splits.proofs.Table.{Far, round_start, round_more, round_end}
+use Rattle.splits.proofs.Table.{round_start, round_more, round_end}
 use Rattle.splits.proofs.split_round.Goals as goal
 
 pub loop-i-init : goal.loop-i-init

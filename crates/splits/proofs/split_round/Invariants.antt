@@ -1,9 +1,7 @@
 use mathlib.Core.Bool.{true}
 use Prim.Native.Nat.{◌-◌}
-use native.Mathlib.Omega.{arith}
 use lib.ListN.{replicate}
-use borrow.Author.Rules.{rules}
-use Rattle.splits.proofs.Table.{Far, round_start, round_more, round_end}
+use Rattle.splits.proofs.Table.{Far}
 use Rattle.splits.proofs.split_round.Given as goal
 
 abbrev pub invariant-loop-i : goal.invariant-loop-i

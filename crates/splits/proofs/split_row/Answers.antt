@@ -1,4 +1,3 @@
-use borrow.Author.Rules.{rules}
 use Rattle.splits.proofs.Table.{step_none, step_split, room_left}
 use Rattle.splits.proofs.Fits.{fits_kept}
 use Rattle.splits.proofs.split_row.Goals as goal

@@ -1,13 +1,3 @@
-use mathlib.Core.List.{map}
-use mathlib.Core.Path.{◌≡◌}
-use Prim.Native.Nat.{◌-◌}
-use lib.ListN.{drop}
-use borrow.Author.Rules.{rules}
-use Rattle.target.specs.Target.{same_name}
-use Rattle.model.specs.Rows.{name_in}
-use Rattle.model.specs.Basic.{any}
-use Rattle.model.specs.Store.{rows_in}
-use Rattle.region.specs.Region.{view}
 use Rattle.splits.proofs.Twice.{again_none, again_here, again_later}
 use Rattle.splits.proofs.stands_again.Goals as goal
 

@@ -1,4 +1,3 @@
-use borrow.Author.Rules.{rules}
 use Rattle.splits.proofs.Twice.{behind_flag}
 use Rattle.splits.proofs.stands_behind.Goals as goal
 

@@ -1,11 +1,4 @@
-use borrow.Author.Rules.{rules}
-use mathlib.Core.Path.{◌≡◌}
 use Prim.Native.Nat.{◌-◌}
-use lib.ListN.{drop}
-use Rattle.region.specs.Region.{view}
-use Rattle.model.specs.Basic.{select}
-use Rattle.model.specs.Store.{is_of, lines_of}
-use Rattle.steps.specs.Steps.{line_among}
 use Rattle.steps.proofs.Laws.{line_start, line_here, line_more, line_end}
 use Rattle.steps.proofs.find_line.Goals as goal
 

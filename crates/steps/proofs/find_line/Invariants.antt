@@ -1,4 +1,3 @@
-use borrow.Author.Rules.{rules}
 use mathlib.Core.Path.{◌≡◌}
 use Prim.Native.Nat.{◌-◌}
 use lib.ListN.{drop}
@@ -6,7 +5,6 @@ use Rattle.region.specs.Region.{view}
 use Rattle.model.specs.Basic.{select}
 use Rattle.model.specs.Store.{is_of, lines_of}
 use Rattle.steps.specs.Steps.{line_among}
-use Rattle.steps.proofs.Laws.{line_start, line_here, line_more, line_end}
 use Rattle.steps.proofs.find_line.Given as goal
 
 abbrev pub invariant-loop-i : goal.invariant-loop-i

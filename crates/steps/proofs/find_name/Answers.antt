@@ -1,9 +1,4 @@
-use mathlib.Core.Path.{◌≡◌, refl}
 use Prim.Native.Nat.{◌-◌}
-use lib.ListN.{drop}
-use borrow.Author.Rules.{rules}
-use Rattle.model.specs.Load.{number_from}
-use Rattle.region.specs.Region.{view}
 use Rattle.steps.proofs.Laws.{at_below, number_here, number_more, number_end}
 use Rattle.steps.proofs.find_name.Goals as goal
 

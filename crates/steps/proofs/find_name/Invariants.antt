@@ -1,10 +1,8 @@
-use mathlib.Core.Path.{◌≡◌, refl}
+use mathlib.Core.Path.{◌≡◌}
 use Prim.Native.Nat.{◌-◌}
 use lib.ListN.{drop}
-use borrow.Author.Rules.{rules}
 use Rattle.model.specs.Load.{number_from}
 use Rattle.region.specs.Region.{view}
-use Rattle.steps.proofs.Laws.{at_below, number_here, number_more, number_end}
 use Rattle.steps.proofs.find_name.Given as goal
 
 -- `find_name` meets its contract: the names before n have other bytes. Assumes nothing.

@@ -1,4 +1,3 @@
-use borrow.Author.Rules.{rules}
 use Rattle.steps.proofs.Laws.{in_loose, in_packed, in_behind}
 use Rattle.steps.proofs.found_in.Goals as goal
 

@@ -1,4 +1,3 @@
-use borrow.Author.Rules.{rules}
 use Rattle.steps.proofs.Laws.{found_at, found_none}
 use Rattle.steps.proofs.found_of.Goals as goal
 

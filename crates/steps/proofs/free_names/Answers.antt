@@ -1,10 +1,7 @@
-use mathlib.Core.Path.{◌≡◌, refl}
-use Prim.Native.Nat.{◌-◌, ◌≤◌}
+use mathlib.Core.Path.{refl}
+use Prim.Native.Nat.{◌-◌}
 use native.Mathlib.Omega.{arith}
-use lib.ListN.{length}
 use borrow.Author.Rules.{rules}
-use Rattle.region.specs.Region.{view, Became}
-use Rattle.steps.specs.Steps.{free_names}
 use Rattle.steps.proofs.Laws.{freed_none, freed_more, freed_below, freed_end}
 use Rattle.steps.proofs.free_names.Goals as goal
 

@@ -1,11 +1,8 @@
-use mathlib.Core.Path.{◌≡◌, refl}
+use mathlib.Core.Path.{◌≡◌}
 use Prim.Native.Nat.{◌-◌, ◌≤◌}
-use native.Mathlib.Omega.{arith}
 use lib.ListN.{length}
-use borrow.Author.Rules.{rules}
 use Rattle.region.specs.Region.{view, Became}
 use Rattle.steps.specs.Steps.{free_names}
-use Rattle.steps.proofs.Laws.{freed_none, freed_more, freed_below, freed_end}
 use Rattle.steps.proofs.free_names.Given as goal
 
 -- `free_names` meets its contract: of the first n names no lock is ours. Assumes nothing.

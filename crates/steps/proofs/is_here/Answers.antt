@@ -1,4 +1,3 @@
-use borrow.Author.Rules.{rules}
 use Rattle.steps.proofs.Laws.{here_first}
 use Rattle.steps.proofs.is_here.Goals as goal
 

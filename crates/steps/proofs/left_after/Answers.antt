@@ -1,4 +1,3 @@
-use borrow.Author.Rules.{rules}
 use Rattle.steps.proofs.Laws.{left_same, left_none, left_less}
 use Rattle.steps.proofs.left_after.Goals as goal
 

@@ -1,5 +1,4 @@
-use borrow.Author.Rules.{rules}
-use Rattle.steps.proofs.Laws.{packed_beside_none, packed_none, packed_null, packed_unpackable, packed_object, packed_other}
+use Rattle.steps.proofs.Laws.{packed_beside_none, packed_none, packed_null, packed_unpackable, packed_object}
 use Rattle.steps.proofs.packed_of.Goals as goal
 
 pub returns-then-number-ne0 : goal.returns-then-number-ne0

@@ -1,4 +1,3 @@
-use borrow.Author.Rules.{rules}
 use Rattle.steps.proofs.Laws.{released_is}
 use Rattle.steps.proofs.release.Goals as goal
 

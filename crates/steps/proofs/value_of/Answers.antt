@@ -1,4 +1,3 @@
-use borrow.Author.Rules.{rules}
 use Rattle.steps.proofs.Laws.{value_is}
 use Rattle.steps.proofs.value_of.Goals as goal
 

@@ -1,9 +1,3 @@
-use borrow.Author.Rules.{rules}
-use lib.ListN.{length, drop}
-use mathlib.Core.Path.{◌≡◌, refl}
-use Prim.Native.Nat.{◌-◌}
-use Rattle.model.specs.Basic.{all}
-use Rattle.model.specs.PackedText.{is_digit}
 use Rattle.names.proofs.Components.{all_stop, all_more, all_end}
 use Rattle.texts.proofs.are_digits.Goals as goal
 

@@ -1,10 +1,8 @@
-use borrow.Author.Rules.{rules}
 use lib.ListN.{length, drop}
-use mathlib.Core.Path.{◌≡◌, refl}
+use mathlib.Core.Path.{◌≡◌}
 use Prim.Native.Nat.{◌-◌}
 use Rattle.model.specs.Basic.{all}
 use Rattle.model.specs.PackedText.{is_digit}
-use Rattle.names.proofs.Components.{all_stop, all_more, all_end}
 use Rattle.texts.proofs.are_digits.Given as goal
 
 abbrev pub invariant-loop-i : goal.invariant-loop-i

@@ -1,4 +1,3 @@
-use borrow.Author.Rules.{rules}
 use Rattle.texts.proofs.Digits.{digit_low, digit_high}
 use Rattle.texts.proofs.digit.Goals as goal
 

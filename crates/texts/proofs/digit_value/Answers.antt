@@ -1,4 +1,3 @@
-use borrow.Author.Rules.{rules}
 use Rattle.model.proofs.Digits.{digit_first, digit_later, low_value, high_value}
 use Rattle.texts.proofs.digit_value.Goals as goal
 

@@ -1,4 +1,3 @@
-use borrow.Author.Rules.{rules}
 use Rattle.texts.proofs.Lines.{peeled_unmarked, peeled_sized, peeled_done}
 use Rattle.texts.proofs.is_peeled.Goals as goal
 

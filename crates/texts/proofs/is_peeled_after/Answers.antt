@@ -1,4 +1,3 @@
-use borrow.Author.Rules.{rules}
 use Rattle.texts.proofs.Lines.{peeled_not_after, peeled_after}
 use Rattle.texts.proofs.is_peeled_after.Goals as goal
 

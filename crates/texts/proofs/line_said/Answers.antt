@@ -1,4 +1,3 @@
-use borrow.Author.Rules.{rules}
 use Rattle.texts.proofs.Lines.{comment_says, peeled_says, other_says}
 use Rattle.texts.proofs.line_said.Goals as goal
 

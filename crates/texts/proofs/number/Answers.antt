@@ -1,9 +1,7 @@
-use Prim.Native.Nat.{◌≤◌, ◌<◌, ◌-◌, ◌+◌, ◌*◌, ◌^◌}
-use mathlib.Core.Path.{◌≡◌, refl}
+use Prim.Native.Nat.{◌<◌, ◌+◌, ◌*◌, ◌^◌}
+use mathlib.Core.Path.{refl}
 use native.Mathlib.Omega.{arith}
-use lib.ListN.{length, drop}
 use lib.Dec.{lit<}
-use Rattle.model.specs.PackedText.{digits_from}
 use Rattle.texts.proofs.Digits.{room, wider, read_turn, read_end, digit_at, value_at}
 use Rattle.texts.proofs.number.Goals as goal
 

@@ -1,10 +1,7 @@
-use Prim.Native.Nat.{◌≤◌, ◌<◌, ◌-◌, ◌+◌, ◌*◌, ◌^◌}
-use mathlib.Core.Path.{◌≡◌, refl}
-use native.Mathlib.Omega.{arith}
+use Prim.Native.Nat.{◌≤◌, ◌<◌, ◌-◌, ◌^◌}
+use mathlib.Core.Path.{◌≡◌}
 use lib.ListN.{length, drop}
-use lib.Dec.{lit<}
 use Rattle.model.specs.PackedText.{digits_from}
-use Rattle.texts.proofs.Digits.{room, wider, read_turn, read_end, digit_at, value_at}
 use Rattle.texts.proofs.number.Given as goal
 
 -- `number` meets its contract: the digits that are left, put after what was read, make the whole number. Assumes nothing.

@@ -1,11 +1,9 @@
-use Prim.Native.Nat.{◌≤◌, ◌<◌}
 use mathlib.Core.Path.{◌≡◌, refl}
 use native.Mathlib.Omega.{arith}
 use native.Mathlib.Nat.{mod-lt}
 use lib.Dec.{lit<}
-use lib.ListN.{length, drop, length-set}
+use lib.ListN.{length-set}
 use lib.Seq.{drop-length}
-use mathlib.Core.List.{[]}
 use Rattle.model.specs.PackedText.{digits_on}
 use Rattle.texts.proofs.Digits.{put_turn}
 use Rattle.texts.proofs.put_digits.Goals as goal

@@ -1,13 +1,8 @@
-use Prim.Native.Nat.{◌≤◌, ◌<◌}
-use mathlib.Core.Path.{◌≡◌, refl}
-use native.Mathlib.Omega.{arith}
-use native.Mathlib.Nat.{mod-lt}
-use lib.Dec.{lit<}
-use lib.ListN.{length, drop, length-set}
-use lib.Seq.{drop-length}
+use Prim.Native.Nat.{◌≤◌}
+use mathlib.Core.Path.{◌≡◌}
+use lib.ListN.{length, drop}
 use mathlib.Core.List.{[]}
 use Rattle.model.specs.PackedText.{digits_on}
-use Rattle.texts.proofs.Digits.{put_turn}
 use Rattle.texts.proofs.put_digits.Given as goal
 
 -- `put_digits` meets its contract: what is left of the number, put before the digits that are written, makes the whole form. Assumes nothing.

@@ -1,5 +1,4 @@
 use mathlib.Core.Path.{◌∙◌}
-use borrow.Author.Rules.{rules}
 use Rattle.texts.proofs.Digits.{name_room, name_part_lem, name_length, name_done}
 use Rattle.texts.proofs.put_name.Goals as goal
 

@@ -1,4 +1,3 @@
-use borrow.Author.Rules.{rules}
 use Rattle.texts.proofs.Lines.{ref_malformed, name_reaches, ref_not_behind, ref_zero, ref_unpackable, ref_says}
 use Rattle.texts.proofs.ref_said.Goals as goal
 

@@ -1,6 +1,5 @@
 use Rattle.std.specs.Prelude.{not}
 use Rattle.std.proofs.Common.{ap}
-use borrow.Author.Rules.{rules}
 use Rattle.texts.proofs.Lines.{ref_short, ref_no_digits, ref_no_zeros, ref_no_space, ref_no_name, ref_head, ref_digits, ref_done}
 use Rattle.texts.proofs.reference.Goals as goal
 

@@ -1,4 +1,3 @@
-use borrow.Author.Rules.{rules}
 use lib.ListN.{drop}
 use Rattle.texts.proofs.Digits.{line_done}
 use Rattle.texts.proofs.write_packed_ref.Goals as goal

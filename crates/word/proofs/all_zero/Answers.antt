@@ -1,4 +1,4 @@
-use Prim.Native.Nat.{ℕ, ◌+◌, ◌-◌, ◌<◌, ◌≤◌}
+use Prim.Native.Nat.{ℕ, ◌+◌, ◌<◌, ◌≤◌}
 use mathlib.Core.Path.{◌≡◌, refl, sym, ap, ap₂, ◌∙◌}
 use mathlib.Core.Bool.{Bool, ◌&&◌, and-true}
 use mathlib.Core.List.{List, [], ◌∷◌}
@@ -7,7 +7,6 @@ use native.Mathlib.Omega.{arith}
 use lib.ListN.{length, take, get_or}
 use lib.Seq.{take_all, take-suc}
 use lib.Dec.{eqb}
-use borrow.Author.Rules.{rules}
 use Rattle.word.specs.Codec.{zeros}
 use Rattle.word.proofs.Slots.{zeros_append}
 use Rattle.word.proofs.all_zero.Goals as goal

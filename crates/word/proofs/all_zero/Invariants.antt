@@ -1,15 +1,8 @@
-use Prim.Native.Nat.{ℕ, ◌+◌, ◌-◌, ◌<◌, ◌≤◌}
-use mathlib.Core.Path.{◌≡◌, refl, sym, ap, ap₂, ◌∙◌}
-use mathlib.Core.Bool.{Bool, ◌&&◌, and-true}
-use mathlib.Core.List.{List, [], ◌∷◌}
-use native.Mathlib.Numerals.{add-one}
-use native.Mathlib.Omega.{arith}
-use lib.ListN.{length, take, get_or}
-use lib.Seq.{take_all, take-suc}
+use Prim.Native.Nat.{◌-◌, ◌≤◌}
+use mathlib.Core.Path.{◌≡◌}
+use lib.ListN.{length, take}
 use lib.Dec.{eqb}
-use borrow.Author.Rules.{rules}
 use Rattle.word.specs.Codec.{zeros}
-use Rattle.word.proofs.Slots.{zeros_append}
 use Rattle.word.proofs.all_zero.Given as goal
 
 -- `word::all_zero` meets its contract: the greatest of the bytes passed is 0 exactly where all of them are. Assumes nothing.

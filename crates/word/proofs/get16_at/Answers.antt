@@ -1,4 +1,3 @@
-use borrow.Author.Rules.{rules}
 use Rattle.word.proofs.Parts.{short}
 use Rattle.word.proofs.get16_at.Goals as goal
 

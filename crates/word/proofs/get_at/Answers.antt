@@ -1,4 +1,3 @@
-use borrow.Author.Rules.{rules}
 use Rattle.word.proofs.Parts.{lent}
 use Rattle.word.proofs.get_at.Goals as goal
 

@@ -1,4 +1,3 @@
-use borrow.Author.Rules.{rules}
 use Rattle.word.proofs.Flags.{no_flag}
 use Rattle.word.proofs.is_raised.Goals as goal
 

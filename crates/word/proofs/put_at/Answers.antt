@@ -1,4 +1,3 @@
-use borrow.Author.Rules.{rules}
 use Rattle.word.proofs.Parts.{put_at_is}
 use Rattle.word.proofs.put_at.Goals as goal
 

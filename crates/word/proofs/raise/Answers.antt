@@ -1,4 +1,3 @@
-use borrow.Author.Rules.{rules}
 use Rattle.word.proofs.Flags.{raise_none}
 use Rattle.word.proofs.raise.Goals as goal
 

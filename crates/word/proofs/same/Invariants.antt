@@ -1,12 +1,6 @@
-use Prim.Native.Nat.{ℕ, zero, suc, ◌-◌, ◌≤◌}
-use mathlib.Core.Path.{◌≡◌, refl, sym, ap, ap₂, ◌∙◌}
-use mathlib.Core.Bool.{Bool, true, false}
-use mathlib.Core.List.{List, ◌∷◌}
-use native.Mathlib.Omega.{arith}
-use lib.ListN.{length, drop, get_or}
-use lib.Seq.{drop-cons, drop-length}
-use Rattle.word.specs.Tests.{same_list}
-use Rattle.word.proofs.Tests.{same_list_true, same_list_refl}
+use Prim.Native.Nat.{◌≤◌}
+use mathlib.Core.Path.{◌≡◌}
+use lib.ListN.{length, drop}
 use Rattle.word.proofs.same.Given as goal
 
 -- `word::same` meets its contract: past the bytes that are left, the two are the same. Assumes nothing.

@@ -1,4 +1,3 @@
-use borrow.Author.Rules.{rules}
 use Rattle.writers.proofs.LineLaws.{add_line_is}
 use Rattle.writers.proofs.add_line.Goals as goal
 

@@ -1,4 +1,3 @@
-use borrow.Author.Rules.{rules}
 use Rattle.writers.proofs.RowLaws.{add_row_is}
 use Rattle.writers.proofs.add_row.Goals as goal
 

@@ -1,4 +1,3 @@
-use borrow.Author.Rules.{rules}
 use Rattle.writers.proofs.RowLaws.{begin_is}
 use Rattle.writers.proofs.begin_rows.Goals as goal
 

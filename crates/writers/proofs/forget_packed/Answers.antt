@@ -1,4 +1,3 @@
-use borrow.Author.Rules.{rules}
 use Rattle.writers.proofs.PutLaws.{forget_packed_is}
 use Rattle.writers.proofs.forget_packed.Goals as goal
 

@@ -1,5 +1,3 @@
-use borrow.Author.Rules.{rules}
-use mathlib.Core.Path.{◌∙◌}
 use Rattle.writers.proofs.RowLaws.{forget_is}
 use Rattle.writers.proofs.forget_rows.Goals as goal
 

@@ -1,4 +1,3 @@
-use borrow.Author.Rules.{rules}
 use Rattle.writers.proofs.LineLaws.{keep_is}
 use Rattle.writers.proofs.keep_lines.Goals as goal
 

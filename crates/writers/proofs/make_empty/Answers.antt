@@ -1,4 +1,3 @@
-use borrow.Author.Rules.{rules}
 use Rattle.writers.proofs.PutLaws.{empty_is}
 use Rattle.writers.proofs.make_empty.Goals as goal
 

@@ -1,6 +1,4 @@
 use Rattle.writers.proofs.LineLaws.{line_gone, line_kept, fits_line}
-use native.Mathlib.Omega.{arith}
-use borrow.Author.Rules.{rules}
 use Rattle.writers.proofs.move_line.Goals as goal
 
 pub returns-then-eq : goal.returns-then-eq

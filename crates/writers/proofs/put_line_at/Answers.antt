@@ -1,4 +1,3 @@
-use borrow.Author.Rules.{rules}
 use Rattle.writers.proofs.LineLaws.{put_line_is}
 use Rattle.writers.proofs.put_line_at.Goals as goal
 

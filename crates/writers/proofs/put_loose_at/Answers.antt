@@ -1,4 +1,3 @@
-use borrow.Author.Rules.{rules}
 use Rattle.writers.proofs.PutLaws.{put_loose_is}
 use Rattle.writers.proofs.put_loose_at.Goals as goal
 

@@ -1,4 +1,3 @@
-use borrow.Author.Rules.{rules}
 use Rattle.writers.proofs.PutLaws.{put_packed_is}
 use Rattle.writers.proofs.put_packed_at.Goals as goal
 

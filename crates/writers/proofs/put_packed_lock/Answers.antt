@@ -1,4 +1,3 @@
-use borrow.Author.Rules.{rules}
 use Rattle.writers.proofs.PutLaws.{put_packed_lock_is}
 use Rattle.writers.proofs.put_packed_lock.Goals as goal
 

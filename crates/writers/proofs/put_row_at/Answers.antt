@@ -1,4 +1,3 @@
-use borrow.Author.Rules.{rules}
 use Rattle.writers.proofs.RowLaws.{put_row_is}
 use Rattle.writers.proofs.put_row_at.Goals as goal
 

@@ -1,7 +1,5 @@
-use borrow.Author.Rules.{rules}
 use native.Mathlib.Omega.{arith}
-use Prim.Native.Nat.{◌-◌}
-use Rattle.writers.proofs.LineLaws.{Far, far_start, far_more, far_end, far_room}
+use Rattle.writers.proofs.LineLaws.{far_start, far_more, far_end, far_room}
 use Rattle.writers.proofs.remove_lines.Goals as goal
 
 pub loop-i-init : goal.loop-i-init

@@ -1,7 +1,5 @@
-use borrow.Author.Rules.{rules}
-use native.Mathlib.Omega.{arith}
 use Prim.Native.Nat.{◌-◌}
-use Rattle.writers.proofs.LineLaws.{Far, far_start, far_more, far_end, far_room}
+use Rattle.writers.proofs.LineLaws.{Far}
 use Rattle.writers.proofs.remove_lines.Given as goal
 
 abbrev pub invariant-loop-i : goal.invariant-loop-i

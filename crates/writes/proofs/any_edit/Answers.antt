@@ -1,13 +1,5 @@
 use borrow.Author.Rules.{rules}
-use mathlib.Core.Path.{◌≡◌}
-use mathlib.Core.Bool.{not}
 use Prim.Native.Nat.{◌-◌}
-use lib.ListN.{drop}
-use Rattle.transaction.specs.declared.Edit.{Edit}
-use Rattle.region.specs.Region.{view}
-use Rattle.model.specs.Basic.{any, is_empty}
-use Rattle.model.specs.Store.{rows_in, mode_in}
-use Rattle.model.specs.Writes.{packed_edit, packed_edits}
 use Rattle.rows.proofs.Laws.{any_more, any_here, any_end}
 use Rattle.writes.proofs.Named.{row_named}
 use Rattle.writes.proofs.Turns.{edits_any}

@@ -1,4 +1,3 @@
-use borrow.Author.Rules.{rules}
 use mathlib.Core.Path.{◌≡◌}
 use mathlib.Core.Bool.{not}
 use Prim.Native.Nat.{◌-◌}
@@ -8,9 +7,6 @@ use Rattle.region.specs.Region.{view}
 use Rattle.model.specs.Basic.{any, is_empty}
 use Rattle.model.specs.Store.{rows_in, mode_in}
 use Rattle.model.specs.Writes.{packed_edit, packed_edits}
-use Rattle.rows.proofs.Laws.{any_more, any_here, any_end}
-use Rattle.writes.proofs.Named.{row_named}
-use Rattle.writes.proofs.Turns.{edits_any}
 use Rattle.writes.proofs.any_edit.Given as goal
 
 abbrev pub invariant-loop-i : goal.invariant-loop-i

@@ -1,5 +1,4 @@
 use Rattle.writes.proofs.Says.{goes_too}
-use borrow.Author.Rules.{rules}
 use Rattle.writes.proofs.goes.Goals as goal
 
 pub returns : goal.returns

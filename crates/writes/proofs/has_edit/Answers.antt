@@ -1,5 +1,4 @@
 use Rattle.writes.proofs.Turns.{edit_not, edit_there}
-use borrow.Author.Rules.{rules}
 use Rattle.writes.proofs.has_edit.Goals as goal
 
 pub returns-in_default : goal.returns-in_default

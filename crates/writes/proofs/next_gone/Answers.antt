@@ -1,5 +1,4 @@
 use Rattle.writes.proofs.Says.{gone_not, gone_only, gone_none, gone_so}
-use borrow.Author.Rules.{rules}
 use Rattle.writes.proofs.next_gone.Goals as goal
 
 pub returns-then-not-goes : goal.returns-then-not-goes

@@ -1,4 +1,3 @@
-use borrow.Author.Rules.{rules}
 use Rattle.writes.proofs.Says.{told_of, line_none, line_due}
 use Rattle.writes.proofs.next_line.Goals as goal
 

@@ -1,4 +1,3 @@
-use borrow.Author.Rules.{rules}
 use Rattle.writes.proofs.Says.{log_update, log_none, log_so}
 use Rattle.writes.proofs.next_log.Goals as goal
 

@@ -1,5 +1,4 @@
 use Rattle.writes.proofs.Says.{loose_free, loose_only, loose_direct, loose_absent, loose_so}
-use borrow.Author.Rules.{rules}
 use Rattle.writes.proofs.next_loose.Goals as goal
 
 pub returns-then-not-keeps_lock : goal.returns-then-not-keeps_lock

@@ -1,5 +1,4 @@
 use Rattle.writes.proofs.Turns.{packed_shut, packed_empty, packed_so}
-use borrow.Author.Rules.{rules}
 use Rattle.writes.proofs.next_packed.Goals as goal
 
 pub returns-then-not-opens_table : goal.returns-then-not-opens_table

@@ -1,5 +1,4 @@
 use Rattle.writes.proofs.Turns.{at_loose, at_none}
-use borrow.Author.Rules.{rules}
 use Rattle.writes.proofs.next_second.Goals as goal
 
 pub returns-then-k-rows : goal.returns-then-k-rows

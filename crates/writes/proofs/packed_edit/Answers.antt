@@ -1,5 +1,4 @@
 use Rattle.writes.proofs.Says.{edit_none, edit_gone, edit_absent, edit_mode, edit_set}
-use borrow.Author.Rules.{rules}
 use Rattle.writes.proofs.packed_edit.Goals as goal
 
 pub returns-then-not-counts_row : goal.returns-then-not-counts_row

@@ -1,5 +1,4 @@
 use Rattle.writes.proofs.Says.{set_object}
-use borrow.Author.Rules.{rules}
 use Rattle.writes.proofs.packed_set.Goals as goal
 
 pub returns-in-Object : goal.returns-in-Object

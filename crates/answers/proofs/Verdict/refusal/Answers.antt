@@ -1,4 +1,3 @@
-use borrow.Author.Rules.{rules}
 use Rattle.model.specs.Numbers.{refusal_answer}
 use Rattle.answers.proofs.Laws.{told}
 use Rattle.answers.proofs.Verdict.refusal.Goals as goal

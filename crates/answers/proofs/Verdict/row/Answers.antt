@@ -1,4 +1,3 @@
-use borrow.Author.Rules.{rules}
 use Rattle.answers.proofs.Laws.{row_answer}
 use Rattle.answers.proofs.Verdict.row.Goals as goal
 

@@ -1,8 +1,3 @@
-use borrow.Author.Rules.{rules}
-use lib.ListN.{length, drop}
-use mathlib.Core.Path.{◌≡◌, refl}
-use Prim.Native.Nat.{◌-◌}
-use Rattle.model.specs.Names.{begins}
 use Rattle.names.proofs.Bytes.{begins_short, begins_not, begins_more, begins_end}
 use Rattle.names.proofs.spelling.begins_with.Goals as goal
 

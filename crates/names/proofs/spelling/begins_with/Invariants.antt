@@ -1,9 +1,7 @@
-use borrow.Author.Rules.{rules}
 use lib.ListN.{length, drop}
-use mathlib.Core.Path.{◌≡◌, refl}
+use mathlib.Core.Path.{◌≡◌}
 use Prim.Native.Nat.{◌-◌}
 use Rattle.model.specs.Names.{begins}
-use Rattle.names.proofs.Bytes.{begins_short, begins_not, begins_more, begins_end}
 use Rattle.names.proofs.spelling.begins_with.Given as goal
 
 abbrev pub invariant-loop-i : goal.invariant-loop-i

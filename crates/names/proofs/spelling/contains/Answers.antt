@@ -1,9 +1,5 @@
-use borrow.Author.Rules.{rules}
-use lib.ListN.{length, drop}
-use mathlib.Core.Path.{◌≡◌, refl}
+use mathlib.Core.Path.{refl}
 use native.Mathlib.Omega.{arith}
-use Prim.Native.Nat.{◌-◌, ◌≤◌}
-use Rattle.model.specs.Names.{within}
 use Rattle.names.proofs.Bytes.{within_here, within_end, within_more}
 use Rattle.names.proofs.spelling.contains.Goals as goal
 

@@ -1,4 +1,3 @@
-use borrow.Author.Rules.{rules}
 use Rattle.names.proofs.Bytes.{ends_short, ends_part}
 use Rattle.names.proofs.spelling.ends_with.Goals as goal
 

@@ -1,8 +1,3 @@
-use borrow.Author.Rules.{rules}
-use lib.ListN.{length, drop}
-use mathlib.Core.Path.{◌≡◌, refl}
-use Prim.Native.Nat.{◌-◌}
-use Rattle.model.specs.Names.{before}
 use Rattle.names.proofs.Bytes.{before_short, before_not, before_more, before_end}
 use Rattle.names.proofs.spelling.is_before.Goals as goal
 

@@ -1,9 +1,7 @@
-use borrow.Author.Rules.{rules}
 use lib.ListN.{length, drop}
-use mathlib.Core.Path.{◌≡◌, refl}
+use mathlib.Core.Path.{◌≡◌}
 use Prim.Native.Nat.{◌-◌}
 use Rattle.model.specs.Names.{before}
-use Rattle.names.proofs.Bytes.{before_short, before_not, before_more, before_end}
 use Rattle.names.proofs.spelling.is_before.Given as goal
 
 abbrev pub invariant-loop-i : goal.invariant-loop-i

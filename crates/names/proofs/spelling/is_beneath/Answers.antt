@@ -1,4 +1,3 @@
-use borrow.Author.Rules.{rules}
 use Rattle.names.proofs.Beneath.{beneath_short, beneath_not, beneath_part, above_length}
 use Rattle.names.proofs.spelling.is_beneath.Goals as goal
 

@@ -1,9 +1,3 @@
-use borrow.Author.Rules.{rules}
-use lib.ListN.{length, drop}
-use mathlib.Core.Path.{◌≡◌}
-use native.Mathlib.Omega.{arith}
-use Prim.Native.Nat.{◌+◌, ◌-◌}
-use Rattle.names.specs.Parts.{up_to}
 use Rattle.names.proofs.Pieces.{byte_here, byte_later, byte_none}
 use Rattle.names.proofs.spelling.up_to.Goals as goal
 

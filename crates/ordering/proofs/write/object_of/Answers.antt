@@ -1,4 +1,3 @@
-use borrow.Author.Rules.{rules}
 use Rattle.ordering.proofs.Lines.{object_far, object_none, object_there}
 use Rattle.ordering.proofs.write.object_of.Goals as goal
 

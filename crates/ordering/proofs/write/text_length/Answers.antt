@@ -1,9 +1,7 @@
 use Prim.Native.Nat.{◌-◌, ◌≤◌}
 use native.Mathlib.Omega.{arith}
 use lib.ListN.{length}
-use borrow.Author.Rules.{rules}
-use Rattle.region.specs.Region.{view}
-use Rattle.ordering.proofs.Lines.{bytes_short, Measured, measure_start, measure_more, measure_end}
+use Rattle.ordering.proofs.Lines.{bytes_short, measure_start, measure_more, measure_end}
 use Rattle.ordering.proofs.write.text_length.Goals as goal
 
 pub loop-i-init : goal.loop-i-init

@@ -1,9 +1,6 @@
-use Prim.Native.Nat.{◌-◌, ◌≤◌}
-use native.Mathlib.Omega.{arith}
-use lib.ListN.{length}
-use borrow.Author.Rules.{rules}
+use Prim.Native.Nat.{◌-◌}
 use Rattle.region.specs.Region.{view}
-use Rattle.ordering.proofs.Lines.{bytes_short, Measured, measure_start, measure_more, measure_end}
+use Rattle.ordering.proofs.Lines.{Measured}
 use Rattle.ordering.proofs.write.text_length.Given as goal
 
 -- `text_length` meets its contract: the total is that of the first i. Assumes nothing.

@@ -1,9 +1,7 @@
 use Prim.Native.Nat.{◌+◌, ◌-◌, ◌≤◌}
 use native.Mathlib.Omega.{arith}
 use lib.ListN.{length}
-use borrow.Author.Rules.{rules}
-use Rattle.region.specs.Region.{view}
-use Rattle.ordering.proofs.Lines.{bytes_short, Written, write_start, write_room, write_part, write_more, write_end}
+use Rattle.ordering.proofs.Lines.{bytes_short, write_start, write_room, write_part, write_more, write_end}
 use Rattle.ordering.proofs.write.write_lines.Goals as goal
 
 pub loop-i-init : goal.loop-i-init

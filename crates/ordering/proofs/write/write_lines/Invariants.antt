@@ -1,9 +1,6 @@
-use Prim.Native.Nat.{◌+◌, ◌-◌, ◌≤◌}
-use native.Mathlib.Omega.{arith}
-use lib.ListN.{length}
-use borrow.Author.Rules.{rules}
+use Prim.Native.Nat.{◌-◌}
 use Rattle.region.specs.Region.{view}
-use Rattle.ordering.proofs.Lines.{bytes_short, Written, write_start, write_room, write_part, write_more, write_end}
+use Rattle.ordering.proofs.Lines.{Written}
 use Rattle.ordering.proofs.write.write_lines.Given as goal
 
 -- `write_lines` meets its contract: the lines of the first i stand in the buffer. Assumes nothing.

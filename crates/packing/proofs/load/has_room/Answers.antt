@@ -1,12 +1,6 @@
-use borrow.Author.Rules.{rules}
 use native.Mathlib.Omega.{arith}
-use lib.ListN.{length}
-use Rattle.model.specs.Store.{count}
 use Rattle.names.proofs.Pieces.{byte_within}
-use Rattle.texts.specs.Walk.{first_refs}
-use Rattle.region.specs.Region.{view}
-use Rattle.packing.specs.Load.{fits}
-use Rattle.packing.proofs.Loading.{next_left, next_line, Counted, count_start, count_end, count_stop, count_on}
+use Rattle.packing.proofs.Loading.{next_left, next_line, count_start, count_end, count_stop, count_on}
 use Rattle.packing.proofs.load.has_room.Goals as goal
 
 pub loop-left-init : goal.loop-left-init

@@ -1,12 +1,9 @@
-use borrow.Author.Rules.{rules}
-use native.Mathlib.Omega.{arith}
 use lib.ListN.{length}
 use Rattle.model.specs.Store.{count}
-use Rattle.names.proofs.Pieces.{byte_within}
 use Rattle.texts.specs.Walk.{first_refs}
 use Rattle.region.specs.Region.{view}
 use Rattle.packing.specs.Load.{fits}
-use Rattle.packing.proofs.Loading.{next_left, next_line, Counted, count_start, count_end, count_stop, count_on}
+use Rattle.packing.proofs.Loading.{Counted}
 use Rattle.packing.proofs.load.has_room.Given as goal
 
 abbrev pub invariant-loop-left : goal.invariant-loop-left

@@ -1,4 +1,3 @@
-use borrow.Author.Rules.{rules}
 use Rattle.packing.proofs.Loading.{line_reaches, held_none, held_new, held_known}
 use Rattle.packing.proofs.load.held_with.Goals as goal
 

@@ -1,4 +1,3 @@
-use borrow.Author.Rules.{rules}
 use Rattle.packing.proofs.Loading.{line_reaches, load_none, load_numbers, load_fits, load_done}
 use Rattle.packing.proofs.load.load_line.Goals as goal
 

@@ -1,11 +1,7 @@
-use mathlib.Core.Path.{sym, ◌∙◌}
-use borrow.Author.Rules.{rules}
 use lib.ListN.{length}
-use native.Mathlib.Omega.{arith}
-use Rattle.names.proofs.Pieces.{byte_within}
 use Rattle.texts.specs.Walk.{first_refs}
 use Rattle.region.specs.Region.{view}
-use Rattle.packing.proofs.Loading.{next_left, next_line, Loading, load_start, load_end, load_line, load_on}
+use Rattle.packing.proofs.Loading.{Loading}
 use Rattle.packing.proofs.load.load_lines.Given as goal
 
 abbrev pub invariant-loop-left : goal.invariant-loop-left

@@ -1,4 +1,3 @@
-use borrow.Author.Rules.{rules}
 use Rattle.packing.proofs.Loading.{number_known, number_room, number_at, number_new}
 use Rattle.packing.proofs.load.number_of.Goals as goal
 

@@ -1,4 +1,3 @@
-use borrow.Author.Rules.{rules}
 use Rattle.target.proofs.Laws.{object_is}
 use Rattle.target.proofs.OptionTarget.is_object.Goals as goal
 

@@ -1,4 +1,3 @@
-use borrow.Author.Rules.{rules}
 use Rattle.target.proofs.Laws.{symbolic_is}
 use Rattle.target.proofs.OptionTarget.is_symbolic.Goals as goal
 

@@ -1,8 +1,4 @@
-use borrow.Author.Rules.{rules}
-use lib.ListN.{length}
-use Prim.Native.Nat.{◌-◌}
-use Rattle.texts.specs.Walk.{At}
-use Rattle.texts.proofs.Walking.{at_start, checked, goes_on, goes_nearer}
+use Rattle.texts.proofs.Walking.{at_start, checked}
 use Rattle.texts.proofs.walk.check.Goals as goal
 
 pub loop-ending-init : goal.loop-ending-init

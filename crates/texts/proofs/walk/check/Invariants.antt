@@ -1,8 +1,6 @@
-use borrow.Author.Rules.{rules}
 use lib.ListN.{length}
 use Prim.Native.Nat.{◌-◌}
 use Rattle.texts.specs.Walk.{At}
-use Rattle.texts.proofs.Walking.{at_start, checked, goes_on, goes_nearer}
 use Rattle.texts.proofs.walk.check.Given as goal
 
 abbrev pub invariant-loop-ending : goal.invariant-loop-ending

@@ -1,4 +1,3 @@
-use borrow.Author.Rules.{rules}
 use native.Mathlib.Omega.{arith}
 use Rattle.texts.proofs.Walking.{line_part, roomy, stops, moves}
 use Rattle.texts.proofs.walk.next_line.Goals as goal

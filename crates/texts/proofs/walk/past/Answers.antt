@@ -1,4 +1,3 @@
-use borrow.Author.Rules.{rules}
 use Rattle.texts.proofs.Walking.{past_malformed, past_unpackable, past_nothing, past_ref}
 use Rattle.texts.proofs.walk.past.Goals as goal
 

@@ -1,4 +1,3 @@
-use borrow.Author.Rules.{rules}
 use Rattle.transaction.proofs.Laws.{delete_is}
 use Rattle.transaction.proofs.Change.is_delete.Goals as goal
 

@@ -1,4 +1,3 @@
-use borrow.Author.Rules.{rules}
 use Rattle.transaction.proofs.Laws.{only_is}
 use Rattle.transaction.proofs.Change.is_log_only.Goals as goal
 

@@ -1,4 +1,3 @@
-use borrow.Author.Rules.{rules}
 use Rattle.transaction.proofs.Laws.{row_begins}
 use Rattle.transaction.proofs.Edit.new.Goals as goal
 

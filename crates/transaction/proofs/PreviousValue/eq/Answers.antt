@@ -1,5 +1,4 @@
 use mathlib.Core.Path.{sym, ◌∙◌}
-use borrow.Author.Rules.{rules}
 use borrow.Author.Tests.{eq-eqb, ne_eqb}
 use Rattle.transaction.proofs.Laws.{stops, goes_on}
 use Rattle.transaction.proofs.PreviousValue.eq.Goals as goal

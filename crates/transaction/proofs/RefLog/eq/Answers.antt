@@ -1,4 +1,3 @@
-use borrow.Author.Rules.{rules}
 use Rattle.transaction.proofs.RefLog.eq.Goals as goal
 
 pub returns : goal.returns
