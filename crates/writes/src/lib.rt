@@ -76,6 +76,7 @@ pub fn next_loose(region: &[u8], mode: PackedRefs, row: Edit) -> OptionWrite
 // ---- W2
 
 // The log of a deleted name, if it has one, as the flag tells.
+#[tactic(auto, using(crate::proofs::Says::log_none))]
 fn next_log(region: &[u8], flags: &[bool], i: usize) -> OptionWrite
     requires laid { Laid region.now }
     requires i_in_bounds { i < length (rows_of (view region.now)) }
