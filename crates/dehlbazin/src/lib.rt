@@ -1,4 +1,4 @@
-// The calls that a foreign program links. Each tests the answer record's size, makes the call and fills the record; its contract
+// The calls that a foreign program links, by the crate dehlbazin_c. Each tests the answer record's size, makes the call and fills the record; its contract
 // fixes the number, every byte of the record and every byte of what is lent, the region first.
 #![tactic(auto)]
 

@@ -21,8 +21,9 @@ pub enum Taken {
     Nothing,
 }
 
+// One byte is asked for at a time: to fill more would wait for input that is not there yet, behind a line that is.
 fn fill(input: &mut Input, notes: &mut Notes) {
-    let got = io::read_full(0, input);
+    let got = io::read_full(0, &mut input[..1]);
     notes[Note::FROM] = 0;
     notes[Note::TO] = got as u64;
 }
