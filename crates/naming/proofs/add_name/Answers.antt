@@ -1,3 +1,4 @@
+use native.Mathlib.Omega.{arith}
 use Rattle.calls.proofs.Replies.{good_laid, bad_region}
 use Rattle.naming.proofs.Laws.{add_bad, add_found, add_full, count_room, name_room, add_done}
 use Rattle.naming.proofs.add_name.Goals as goal
@@ -26,7 +27,7 @@ add_name-requires-clause-laid c =
 
 pub add_name-requires-clause-region_bound : goal.add_name-requires-clause-region_bound
 add_name-requires-clause-region_bound c =
-    count_room _ _ c.count_names-n.ensures c.if-n-ge-LIMIT.false
+    count_room _ _ c.count_names-n.ensures (omega arith)
 
 pub add_name-requires-clause-name_len_bound : goal.add_name-requires-clause-name_len_bound
 add_name-requires-clause-name_len_bound c =
