@@ -1,49 +1,39 @@
 -- What the places of a row are, and what the loop over places keeps. Assumes nothing.
+use Rattle.std.specs.Prelude.{Option, Some, None}
 use mathlib.Core.Path.{◌≡◌, refl, sym, ap, ap₂, ◌∙◌}
 use mathlib.Core.List.{List, [], ◌∷◌, ◌++◌, append_assoc, append-nil}
 use Prim.Native.Nat.{ℕ, ◌+◌, ◌*◌, ◌<◌, ◌≤◌}
 use native.Mathlib.Numerals.{add-one}
 use native.Mathlib.Omega.{arith}
-use lib.ListN.{length, take, drop, get_or, length-append}
+use lib.ListN.{length, take, drop, set, get_or, length-append}
 use lib.Seq.{take_at, take-suc, take_all, length-take-le}
 use Rattle.word.specs.Be.{be}
 use Rattle.word.specs.Cut.{put}
 use Rattle.word.proofs.Be.{length_be}
 use Rattle.target.specs.declared.Found.{Found}
 use Rattle.target.specs.Fields.{place_number}
-use Rattle.transaction.specs.declared.ParentIndex.{ParentIndex}
-use Rattle.transaction.specs.declared.ParentIndex.TheVariants.{NoParent, Parent}
 use Rattle.transaction.specs.declared.Edit.{Edit}
 use Rattle.model.specs.declared.Refusal.{Refusal}
 use Rattle.model.specs.Basic.{collect}
-use Rattle.model.specs.Numbers.{Answer, answer, parent_places, row_places, refusal_answer}
+use Rattle.model.specs.Numbers.{parent_places, row_places, refusal_answer}
 use Rattle.answers.specs.declared.Verdict.{Verdict}
 use Rattle.slots.specs.Row.{row_numbers, parent_flag, parent_place}
-use Rattle.answers.specs.Answers.{record_of, padded, answer_by}
+use Rattle.answers.specs.Answers.{record_of, answer_by}
 
 -- ---- a row answers the numbers of its slot
 
-parents : (p : ParentIndex) → parent_places p ≡ parent_flag p ∷ parent_place p ∷ []
-parents NoParent = refl
-parents (Parent j) = refl
+parents : (p : Option ℕ) → parent_places p ≡ parent_flag p ∷ parent_place p ∷ []
+parents None = refl
+parents (Some j) = refl
 
--- thirteen of them, the place of the existing value, and two zeros
-sixteen : List ℕ → ℕ → List ℕ
-sixteen p k =
-    get_or p 0 0 ∷ get_or p 1 0 ∷ get_or p 2 0 ∷ get_or p 3 0 ∷ get_or p 4 0 ∷ get_or p 5 0 ∷ get_or p 6 0 ∷ get_or p 7 0 ∷ get_or p 8 0 ∷ get_or p 9 0
-    ∷ get_or p 10 0 ∷ get_or p 11 0 ∷ get_or p 12 0 ∷ k ∷ 0 ∷ 0 ∷ []
+-- thirteen of them, and behind them the place of the existing value
+used : List ℕ → ℕ → List ℕ
+used p k = set (p ++ (0 ∷ [])) 13 k
 
-pub row_is : (r : Edit) (x : Found) (p : List ℕ) (k : ℕ) → p ≡ row_numbers r → k ≡ place_number x
-    → get_or p 0 0 ∷ get_or p 1 0 ∷ get_or p 2 0 ∷ get_or p 3 0 ∷ get_or p 4 0 ∷ get_or p 5 0 ∷ get_or p 6 0 ∷ get_or p 7 0 ∷ get_or p 8 0 ∷ get_or p 9 0
-    ∷ get_or p 10 0 ∷ get_or p 11 0 ∷ get_or p 12 0 ∷ k ∷ 0 ∷ 0 ∷ [] ≡ padded (row_places r ++ (place_number x ∷ []))
-unfolding sixteen
-row_is r x p k e ek = ap₂ sixteen e ek ∙ simp (parents r.parent_index)
-
-pub row_answer : (ps qs : List ℕ) → ps ≡ padded qs → answer_by (record { number = 0; places = ps }) ≡ answer 0 qs
-row_answer ps qs e = ap done e
-  where
-    done : List ℕ → Answer
-    done ps = record { number = 0; places = ps }
+pub row_used : (r : Edit) (x : Found) (q p : List ℕ) (k : ℕ) → q ≡ p → p ≡ row_numbers r → k ≡ place_number x
+    → set (q ++ (0 ∷ [])) 13 k ≡ row_places r ++ (place_number x ∷ [])
+unfolding used
+row_used r x q p k eq ep ek = ap₂ used (eq ∙ ep) ek ∙ simp (parents r.parent_index)
 
 -- ---- the loop over places: the first i stand in the first i * 8 bytes
 

@@ -1,13 +1,13 @@
 // What a call answers, and the record that is filled with it.
 #![tactic(auto)]
 
-ghost use Rattle.std.specs.Prelude.{◌≡◌, [], ◌∷◌, ◌++◌, length};
+ghost use Rattle.std.specs.Prelude.{◌≡◌, [], ◌∷◌, ◌++◌, ◌≤◌, length};
 ghost use Rattle.target.specs.Fields.{place_number};
 ghost use Rattle.model.specs.Numbers.{answer, row_places, target_places, refusal_answer};
-ghost use Rattle.answers.specs.Answers.{record_of, padded, answer_by};
+ghost use Rattle.answers.specs.Answers.{record_of, answer_by, answered};
 
 use model::Refusal;
-use target::{Found, NameNumber, OptionTarget, Target};
+use target::{Found, NameNumber, Target};
 use transaction::Edit;
 
 // The answer record, 16 places of 8 bytes, and the numbers that calls return.
@@ -83,86 +83,58 @@ impl Answer {
 }
 
 // What a call answers: its number, and every place of the record. So equal answers are equal verdicts.
-#[derive(Clone, Copy)]
+#[derive(Clone, Copy, PartialEq, Eq)]
 pub struct Verdict {
     pub number: u32,
     pub places: [u64; 16],
 }
 
-// A number with as many places as it uses; the others are 0.
 impl Verdict {
-    pub fn bare(number: u32) -> Verdict
-        ensures { answer_by result ≡ answer number [] }
+    // A number with as many places as it uses; the others are 0.
+    pub fn new(number: u32, used: &[u64]) -> Verdict
+        requires { length used.now ≤ 16 }
+        ensures { answer_by result ≡ answer number used.now }
     {
-        let places = [0u64; 16];
-        Verdict {
-            number: number,
-            places: places,
-        }
+        let mut places = [0u64; Answer::PLACES];
+        places[..used.len()].copy_from_slice(used);
+        Verdict { number, places }
     }
 
-    pub fn one(number: u32, x: u64) -> Verdict
-        ensures { answer_by result ≡ answer number (x ∷ []) }
+    // A call is done, and this is what it gives.
+    pub fn done(used: &[u64]) -> Verdict
+        requires { length used.now ≤ 16 }
+        ensures { answer_by result ≡ answer 0 used.now }
     {
-        let mut places = [0u64; 16];
-        places[0] = x;
-        Verdict {
-            number: number,
-            places: places,
-        }
+        Verdict::new(Answer::DONE, used)
     }
 
-    pub fn two(number: u32, x: u64, y: u64) -> Verdict
-        ensures { answer_by result ≡ answer number (x ∷ y ∷ []) }
+    // What reading a row answers: its numbers, as its slot has them, and the place of its existing value.
+    pub fn row(row: Edit, found: Found) -> Verdict
+        ensures { answer_by result ≡ answer 0 (row_places row ++ (place_number found ∷ [])) }
     {
-        let mut places = [0u64; 16];
-        places[0] = x;
-        places[1] = y;
-        Verdict {
-            number: number,
-            places: places,
-        }
+        let mut used = [0u64; 14];
+        used[..13].copy_from_slice(&slots::row_numbers(row));
+        used[13] = found.place();
+        Verdict::done(&used)
     }
+}
 
-    pub fn three(number: u32, x: u64, y: u64, z: u64) -> Verdict
-        ensures { answer_by result ≡ answer number (x ∷ y ∷ z ∷ []) }
-    {
-        let mut places = [0u64; 16];
-        places[0] = x;
-        places[1] = y;
-        places[2] = z;
-        Verdict {
-            number: number,
-            places: places,
-        }
-    }
+// A refusal's number, and what goes with it.
+impl From<Refusal> for Verdict {
+    ghost from_gives = { λ refusal verdict. answer_by verdict ≡ refusal_answer refusal };
 
-    pub fn four(number: u32, x: u64, y: u64, z: u64, w: u64) -> Verdict
-        ensures { answer_by result ≡ answer number (x ∷ y ∷ z ∷ w ∷ []) }
-    {
-        let mut places = [0u64; 16];
-        places[0] = x;
-        places[1] = y;
-        places[2] = z;
-        places[3] = w;
-        Verdict {
-            number: number,
-            places: places,
-        }
-    }
-
-    // A refusal's number, and what goes with it.
-    pub fn refusal(refusal: Refusal) -> Verdict
-        ensures { answer_by result ≡ refusal_answer refusal }
-    {
+    fn from(refusal: Refusal) -> Verdict {
         match refusal {
-            Refusal::BadRegion => Verdict::bare(Answer::BAD_REGION),
-            Refusal::Malformed => Verdict::bare(Answer::MALFORMED),
-            Refusal::NotRegistered(number) => Verdict::one(Answer::NOT_REGISTERED, number),
-            Refusal::ReferenceCycle => Verdict::bare(Answer::REFERENCE_CYCLE),
-            Refusal::TooManyRows => Verdict::bare(Answer::TOO_MANY_ROWS),
+            Refusal::BadRegion => Verdict::new(Answer::BAD_REGION, &[]),
+            Refusal::Malformed => Verdict::new(Answer::MALFORMED, &[]),
+            Refusal::NotRegistered(number) => Verdict::new(Answer::NOT_REGISTERED, &[number]),
+            Refusal::ReferenceCycle => Verdict::new(Answer::REFERENCE_CYCLE, &[]),
+            Refusal::TooManyRows => Verdict::new(Answer::TOO_MANY_ROWS, &[]),
             Refusal::MultipleEdits(n) => named(Answer::MULTIPLE_EDITS, n),
-            Refusal::PackedTransactionAcquire => Verdict::bare(Answer::PACKED_TRANSACTION_ACQUIRE),
+            Refusal::PackedTransactionAcquire => Verdict::new(
+                Answer::PACKED_TRANSACTION_ACQUIRE,
+                &[],
+            ),
             Refusal::LockAcquire(n) => named(Answer::LOCK_ACQUIRE, n),
             Refusal::DeleteReferenceMustExist(n) => named(Answer::DELETE_REFERENCE_MUST_EXIST, n),
             Refusal::MustNotExist(n, actual, new) => named_two(
@@ -179,30 +151,20 @@ impl Verdict {
                 actual,
             ),
             Refusal::DeleteMustNotExist(n) => named(Answer::DELETE_MUST_NOT_EXIST, n),
-            Refusal::LogFull => Verdict::bare(Answer::LOG_FULL),
-            Refusal::WrongState => Verdict::bare(Answer::WRONG_STATE),
-            Refusal::BadName => Verdict::bare(Answer::BAD_NAME),
-            Refusal::NamesFull => Verdict::bare(Answer::NAMES_FULL),
-            Refusal::WrongLock => Verdict::bare(Answer::WRONG_LOCK),
-            Refusal::BadLoad => Verdict::bare(Answer::BAD_LOAD),
-            Refusal::NothingThere => Verdict::bare(Answer::NOTHING_THERE),
-            Refusal::MalformedRecord => Verdict::bare(Answer::MALFORMED_RECORD),
-            Refusal::UnknownVersion => Verdict::bare(Answer::UNKNOWN_VERSION),
+            Refusal::LogFull => Verdict::new(Answer::LOG_FULL, &[]),
+            Refusal::WrongState => Verdict::new(Answer::WRONG_STATE, &[]),
+            Refusal::BadName => Verdict::new(Answer::BAD_NAME, &[]),
+            Refusal::NamesFull => Verdict::new(Answer::NAMES_FULL, &[]),
+            Refusal::WrongLock => Verdict::new(Answer::WRONG_LOCK, &[]),
+            Refusal::BadLoad => Verdict::new(Answer::BAD_LOAD, &[]),
+            Refusal::NothingThere => Verdict::new(Answer::NOTHING_THERE, &[]),
+            Refusal::MalformedRecord => Verdict::new(Answer::MALFORMED_RECORD, &[]),
+            Refusal::UnknownVersion => Verdict::new(Answer::UNKNOWN_VERSION, &[]),
             Refusal::NameConflict(n) => named(Answer::NAME_CONFLICT, n),
-            Refusal::ReceiverFull => Verdict::bare(Answer::RECEIVER_FULL),
-            Refusal::MalformedLine(line) => Verdict::one(Answer::MALFORMED_LINE, line),
-            Refusal::TextTooLong => Verdict::bare(Answer::TEXT_TOO_LONG),
-            Refusal::ShortBuffer => Verdict::bare(Answer::SHORT_BUFFER),
-        }
-    }
-
-    // What reading a row answers: its numbers, and where its existing value was found.
-    pub fn row(row: Edit, found: Found) -> Verdict
-        ensures { answer_by result ≡ answer 0 (row_places row ++ (place_number found ∷ [])) }
-    {
-        Verdict {
-            number: Answer::DONE,
-            places: row_places(row, found),
+            Refusal::ReceiverFull => Verdict::new(Answer::RECEIVER_FULL, &[]),
+            Refusal::MalformedLine(line) => Verdict::new(Answer::MALFORMED_LINE, &[line]),
+            Refusal::TextTooLong => Verdict::new(Answer::TEXT_TOO_LONG, &[]),
+            Refusal::ShortBuffer => Verdict::new(Answer::SHORT_BUFFER, &[]),
         }
     }
 }
@@ -211,63 +173,38 @@ impl Verdict {
 fn named(number: u32, name: NameNumber) -> Verdict
     ensures { answer_by result ≡ answer number (name.0 ∷ []) }
 {
-    Verdict::one(number, name.0 as u64)
+    Verdict::new(number, &[u64::from(name.0)])
 }
 
 fn named_one(number: u32, name: NameNumber, t: Target) -> Verdict
     ensures { answer_by result ≡ answer number (name.0 ∷ target_places t) }
 {
-    let there = OptionTarget::Present(t);
-    let mut places = [0u64; 16];
-    places[0] = name.0 as u64;
-    places[1] = there.byte();
-    places[2] = there.number();
-    Verdict {
-        number: number,
-        places: places,
-    }
+    let there = Some(t);
+    Verdict::new(
+        number,
+        &[
+            u64::from(name.0),
+            target::target_byte(there),
+            target::target_number(there),
+        ],
+    )
 }
 
 fn named_two(number: u32, name: NameNumber, t: Target, u: Target) -> Verdict
     ensures { answer_by result ≡ answer number (name.0 ∷ target_places t ++ target_places u) }
 {
-    let first = OptionTarget::Present(t);
-    let second = OptionTarget::Present(u);
-    let mut places = [0u64; 16];
-    places[0] = name.0 as u64;
-    places[1] = first.byte();
-    places[2] = first.number();
-    places[3] = second.byte();
-    places[4] = second.number();
-    Verdict {
-        number: number,
-        places: places,
-    }
-}
-
-// The places of a row: its numbers, as its slot has them, the place of its existing value, and zeros.
-fn row_places(row: Edit, found: Found) -> [u64; 16]
-    ensures { result ≡ padded (row_places row ++ (place_number found ∷ [])) }
-{
-    let p = slots::row_numbers(row);
-    [
-        p[0],
-        p[1],
-        p[2],
-        p[3],
-        p[4],
-        p[5],
-        p[6],
-        p[7],
-        p[8],
-        p[9],
-        p[10],
-        p[11],
-        p[12],
-        found.place(),
-        0,
-        0,
-    ]
+    let first = Some(t);
+    let second = Some(u);
+    Verdict::new(
+        number,
+        &[
+            u64::from(name.0),
+            target::target_byte(first),
+            target::target_number(first),
+            target::target_byte(second),
+            target::target_number(second),
+        ],
+    )
 }
 
 // ---- the record
@@ -276,19 +213,20 @@ fn put_places(answer: &mut [u8], places: [u64; 16])
     requires { length answer.old ≡ 128 }
     ensures { answer.new ≡ record_of places }
 {
-    let mut i: usize = 0;
-    while i < Answer::PLACES {
+    for i in 0..Answer::PLACES {
         word::put_at(answer, i * Answer::WIDTH, Answer::WIDTH, places[i]);
-        i += 1;
     }
 }
 
-// Fills the record, and gives the number.
-pub fn finish(answer: &mut [u8], verdict: Verdict) -> u32
+// Fills the record with what a call gives or is refused for, and gives the number.
+pub fn finish(answer: &mut [u8], outcome: Result<Verdict, Refusal>) -> u32
     requires { length answer.old ≡ 128 }
-    ensures { (result ≡ (answer_by verdict).number) × (answer.new ≡ record_of (answer_by verdict).places) }
+    ensures { (result ≡ (answered outcome).number) × (answer.new ≡ record_of (answered outcome).places) }
 {
-    let places = verdict.places;
-    put_places(answer, places);
+    let verdict = match outcome {
+        Ok(verdict) => verdict,
+        Err(refusal) => Verdict::from(refusal),
+    };
+    put_places(answer, verdict.places);
     verdict.number
 }

@@ -1,73 +1,60 @@
-// One call each, on an answer record of its own, and the line that says what it answered.
-use answers::Answer;
+// Calls, each on an answer record of its own, and the line that says what it answered.
+use reply::Reply;
+use std::io;
+use std::io::Write;
 
-fn tell(what: &[u8], number: u32, answer: &[u8; 128]) {
-    say::answer(what, number as u64, word::get_at(answer, 0, Answer::WIDTH));
-    say::end();
+// A call is made, and what it answered is said.
+pub fn tell<F: FnOnce(&mut [u8; 128]) -> u32>(
+    rt: &impl Print,
+    what: &str,
+    call: F,
+) -> io::Result<()>
+    requires { F.IsAlwaysCallable call }
+{
+    let reply = Reply::of(call);
+    println!(rt; "{what}: {reply}")
 }
 
-pub fn start(region: &mut [u8]) {
-    let mut answer = [0u8; 128];
-    let number = dehlbazin::dehlbazin_start(region, 1, &mut answer);
-    tell(b"start", number, &answer);
+// The bytes of a buffer, as they are.
+pub fn tell_bytes(rt: &impl Print, bytes: &[u8]) -> io::Result<()> {
+    io::writer(rt).write_all(bytes)?;
+    println!(rt)
 }
 
-pub fn name(region: &mut [u8], bytes: &[u8]) {
-    let mut answer = [0u8; 128];
-    let number = dehlbazin::dehlbazin_add_name(region, bytes, &mut answer);
-    tell(bytes, number, &answer);
+pub fn start(rt: &impl Print, region: &mut [u8]) -> io::Result<()> {
+    tell(rt, "start", |answer| {
+        dehlbazin::dehlbazin_start(region, 1, answer)
+    })
 }
 
-pub fn loose(region: &mut [u8], name: u64, kind: u64, x: u64) {
-    let mut answer = [0u8; 128];
-    let number = dehlbazin::dehlbazin_load_loose(region, name, kind, x, &mut answer);
-    tell(b"loose", number, &answer);
+pub fn name(rt: &impl Print, region: &mut [u8], name: &str) -> io::Result<()> {
+    tell(rt, name, |answer| {
+        dehlbazin::dehlbazin_add_name(region, name.as_bytes(), answer)
+    })
 }
 
-pub fn packed(region: &mut [u8], name: u64, object: u64) {
-    let mut answer = [0u8; 128];
-    let number = dehlbazin::dehlbazin_load_packed(region, name, 1, object, &mut answer);
-    tell(b"packed", number, &answer);
+pub fn loose(rt: &impl Print, region: &mut [u8], name: u64, kind: u64, x: u64) -> io::Result<()> {
+    tell(rt, "loose", |answer| {
+        dehlbazin::dehlbazin_load_loose(region, name, kind, x, answer)
+    })
+}
+
+pub fn packed(rt: &impl Print, region: &mut [u8], name: u64, object: u64) -> io::Result<()> {
+    tell(rt, "packed", |answer| {
+        dehlbazin::dehlbazin_load_packed(region, name, 1, object, answer)
+    })
 }
 
 // The buffer's bytes follow, the text and what stands past it.
-pub fn write(what: &[u8], region: &[u8], buffer: &mut [u8]) {
-    let mut answer = [0u8; 128];
-    let number = dehlbazin::dehlbazin_write_packed(region, buffer, &mut answer);
-    tell(what, number, &answer);
-    say::text(buffer);
-    say::end();
+pub fn write(rt: &impl Print, what: &str, region: &[u8], buffer: &mut [u8]) -> io::Result<()> {
+    tell(rt, what, |answer| {
+        dehlbazin::dehlbazin_write_packed(region, buffer, answer)
+    })?;
+    tell_bytes(rt, buffer)
 }
 
-pub fn read(what: &[u8], region: &mut [u8], text: &[u8]) {
-    let mut answer = [0u8; 128];
-    let number = dehlbazin::dehlbazin_read_packed(region, text, &mut answer);
-    tell(what, number, &answer);
-}
-
-// A record of another size: nothing is written, or read.
-pub fn write_short(region: &[u8], buffer: &mut [u8]) {
-    let mut answer = [0u8; 128];
-    let number = dehlbazin::dehlbazin_write_packed(region, buffer, &mut answer[0..127]);
-    tell(b"written with 127 bytes of answer", number, &answer);
-    say::text(buffer);
-    say::end();
-}
-
-pub fn read_short(region: &mut [u8]) {
-    let mut answer = [0u8; 128];
-    let number = dehlbazin::dehlbazin_read_packed(region, b"", &mut answer[0..127]);
-    tell(b"read with 127 bytes of answer", number, &answer);
-}
-
-pub fn prepare(region: &mut [u8], list: &[u8]) {
-    let mut answer = [0u8; 128];
-    let number = dehlbazin::dehlbazin_prepare(region, list, 1, &mut answer);
-    tell(b"prepared", number, &answer);
-}
-
-pub fn give_up(region: &mut [u8]) {
-    let mut answer = [0u8; 128];
-    let number = dehlbazin::dehlbazin_rollback(region, &mut answer);
-    tell(b"given up", number, &answer);
+pub fn read(rt: &impl Print, what: &str, region: &mut [u8], text: &str) -> io::Result<()> {
+    tell(rt, what, |answer| {
+        dehlbazin::dehlbazin_read_packed(region, text.as_bytes(), answer)
+    })
 }

@@ -1,64 +1,51 @@
 // 19: room for 256 names, with those that earlier lines added.
 use crate::{asks, readings};
+use reply::Reply;
+use std::io;
 
-// refs/tags/aa, .., refs/tags/pp, by number.
-fn add(region: &mut [u8], i: u8) {
-    let mut answer = [0u8; 128];
-    let name = [
-        114,
-        101,
-        102,
-        115,
-        47,
-        116,
-        97,
-        103,
-        115,
-        47,
-        97 + i / 16,
-        97 + i % 16,
-    ];
-    dehlbazin::dehlbazin_add_name(region, &name, &mut answer);
-}
-
-// 255 of them.
+// refs/tags/aa, .., refs/tags/pp, by number, without the last of them.
 fn fill(region: &mut [u8]) {
-    let mut i: u8 = 0;
-    while i < 255 {
-        add(region, i);
-        i += 1;
+    for i in 0..255u8 {
+        let mut name = *b"refs/tags/aa";
+        name[10] += i / 16;
+        name[11] += i % 16;
+        Reply::of(|answer| dehlbazin::dehlbazin_add_name(region, &name, answer));
     }
 }
 
 // One new name has room, and a second has none.
-fn room(region: &mut [u8]) {
+fn room(rt: &impl Print, region: &mut [u8]) -> io::Result<()> {
     asks::read(
-        b"two new names",
+        rt,
+        "two new names",
         region,
-        b"0000000000000000000000000000000000000001 refs/heads/x\n0000000000000000000000000000000000000002 refs/heads/y\n",
-    );
-    asks::name(region, b"refs/tags/ab");
+        "0000000000000000000000000000000000000001 refs/heads/x\n0000000000000000000000000000000000000002 refs/heads/y\n",
+    )?;
+    asks::name(rt, region, "refs/tags/ab")?;
     asks::read(
-        b"a new name",
+        rt,
+        "a new name",
         region,
-        b"0000000000000000000000000000000000000001 refs/heads/x\n0000000000000000000000000000000000000002 refs/tags/ab\n",
-    );
+        "0000000000000000000000000000000000000001 refs/heads/x\n0000000000000000000000000000000000000002 refs/tags/ab\n",
+    )?;
     asks::read(
-        b"one more",
+        rt,
+        "one more",
         region,
-        b"0000000000000000000000000000000000000002 refs/heads/y\n",
-    );
+        "0000000000000000000000000000000000000002 refs/heads/y\n",
+    )?;
     asks::read(
-        b"one more, and a later line at fault",
+        rt,
+        "one more, and a later line at fault",
         region,
-        b"0000000000000000000000000000000000000002 refs/heads/y\n\n",
-    );
-    asks::name(region, b"refs/heads/x");
+        "0000000000000000000000000000000000000002 refs/heads/y\n\n",
+    )?;
+    asks::name(rt, region, "refs/heads/x")
 }
 
-pub fn all(region: &mut [u8]) {
-    asks::start(region);
+pub fn all(rt: &impl Print, region: &mut [u8]) -> io::Result<()> {
+    asks::start(rt, region)?;
     fill(region);
-    room(region);
-    readings::written(region);
+    room(rt, region)?;
+    readings::written(rt, region)
 }

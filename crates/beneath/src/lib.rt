@@ -8,7 +8,7 @@ ghost use Rattle.region.specs.Region.{view, Laid};
 ghost use Rattle.beneath.specs.Facing.{facing, some_facing, nested, meets};
 
 use model::Loose;
-use target::{NameNumber, OptionTarget};
+use target::{NameNumber, Target};
 use transaction::{Edit, PackedRefs};
 
 // ---- two names
@@ -17,11 +17,7 @@ use transaction::{Edit, PackedRefs};
 pub fn is_value(v: Loose) -> bool
     ensures { result ≡ not (is_none v) }
 {
-    match v {
-        Loose::None => false,
-        Loose::Target(_) => true,
-        Loose::Broken => true,
-    }
+    v != Loose::None
 }
 
 // Whether a name has a loose value; a number that is not registered has none.
@@ -29,10 +25,7 @@ pub fn is_loose(region: &[u8], name: NameNumber) -> bool
     requires { Laid region.now }
     ensures { result ≡ is_loose (view region.now) name.0 }
 {
-    if name.place() >= region::count_names(region) {
-        return false;
-    }
-    is_value(region::loose_at(region, name))
+    name.place() < region::count_names(region) && is_value(region::loose_at(region, name))
 }
 
 // The bytes of a name; a number that is not registered has none.
@@ -40,10 +33,11 @@ pub fn bytes_of(region: &[u8], name: NameNumber) -> &[u8]
     requires { Laid region.now }
     ensures { result.now ≡ (entry_of (view region.now) name).name }
 {
-    if name.place() >= region::count_names(region) {
-        return &region[..0];
+    if name.place() < region::count_names(region) {
+        region::name_at(region, name)
+    } else {
+        &region[..0]
     }
-    region::name_at(region, name)
 }
 
 // The first name lies beneath the second.
@@ -57,17 +51,13 @@ pub fn lies_beneath(region: &[u8], name: NameNumber, above: NameNumber) -> bool
 // ---- loose values above and beneath
 
 // The other name has a loose value and stands above, or beneath.
+#[tactic(auto, unfolding(crate::specs::Facing::facing))]
 fn is_facing(region: &[u8], up: bool, name: NameNumber, other: NameNumber) -> bool
     requires { Laid region.now }
     ensures { result ≡ facing up (view region.now) name.0 other.0 }
 {
-    if !is_loose(region, other) {
-        return false;
-    }
-    if up {
-        return lies_beneath(region, name, other);
-    }
-    lies_beneath(region, other, name)
+    let (lower, upper) = if up { (name, other) } else { (other, name) };
+    is_loose(region, other) && lies_beneath(region, lower, upper)
 }
 
 fn any_facing(region: &[u8], up: bool, name: NameNumber) -> bool
@@ -75,18 +65,15 @@ fn any_facing(region: &[u8], up: bool, name: NameNumber) -> bool
     ensures { result ≡ some_facing up (view region.now) name.0 }
 {
     let count = region::count_names(region);
-    let mut m: usize = 0;
-    while m < count {
-        let yes = is_facing(region, up, name, NameNumber::at(m));
-        if yes {
+    for m in 0..count {
+        if is_facing(region, up, name, NameNumber::at(m)) {
             return true;
-        } else {
-            m += 1;
         }
     }
     false
 }
 
+#[tactic(auto, unfolding(crate::specs::Facing::some_facing, crate::specs::Facing::facing, model::specs::Beneath::loose_above))]
 pub fn loose_above(region: &[u8], name: NameNumber) -> bool
     requires { Laid region.now }
     ensures { result ≡ loose_above (view region.now) name.0 }
@@ -94,6 +81,7 @@ pub fn loose_above(region: &[u8], name: NameNumber) -> bool
     any_facing(region, true, name)
 }
 
+#[tactic(auto, unfolding(crate::specs::Facing::some_facing, crate::specs::Facing::facing, model::specs::Beneath::loose_beneath))]
 pub fn loose_beneath(region: &[u8], name: NameNumber) -> bool
     requires { Laid region.now }
     ensures { result ≡ loose_beneath (view region.now) name.0 }
@@ -104,26 +92,17 @@ pub fn loose_beneath(region: &[u8], name: NameNumber) -> bool
 // ---- rows
 
 // The row would write a loose value in W1.
-pub fn would_write(region: &[u8], mode: PackedRefs, row: Edit, existing: OptionTarget) -> bool
+#[tactic(auto, unfolding(model::specs::Beneath::would_write, model::specs::Rows::is_direct))]
+pub fn would_write(region: &[u8], mode: PackedRefs, row: Edit, existing: Option<Target>) -> bool
     requires { Laid region.now }
     ensures { result ≡ would_write (view region.now) mode row existing }
 {
-    let update = row.update;
-    let change = update.change;
-    if change.is_delete() {
-        return false;
-    }
-    if change.is_log_only() {
-        return false;
-    }
-    if rows::is_direct(region, mode, row) {
-        return false;
-    }
+    let change = row.update.change;
     let new = change.new_value();
-    if new.is_symbolic() {
-        return true;
-    }
-    !new.eq(existing)
+    !change.is_delete()
+        && !change.is_log_only()
+        && !rows::is_direct(region, mode, row)
+        && (target::is_symbolic(new) || new != existing)
 }
 
 // The same of a row that had its turn.
@@ -131,32 +110,27 @@ pub fn will_write(region: &[u8], mode: PackedRefs, row: Edit) -> bool
     requires { Laid region.now }
     ensures { result ≡ will_write (view region.now) mode row }
 {
-    let update = row.update;
-    let change = update.change;
-    would_write(region, mode, row, change.existing())
+    would_write(region, mode, row, row.update.change.existing())
 }
 
 // One of the two names lies beneath the other.
+#[tactic(auto, unfolding(crate::specs::Facing::nested))]
 fn are_nested(region: &[u8], name: NameNumber, other: NameNumber) -> bool
     requires { Laid region.now }
     ensures { result ≡ nested (view region.now) name.0 other.0 }
 {
-    if lies_beneath(region, name, other) {
-        return true;
-    }
-    lies_beneath(region, other, name)
+    lies_beneath(region, name, other) || lies_beneath(region, other, name)
 }
 
 // The row at place j would write a loose value, and stands above or beneath the name.
+#[tactic(auto, unfolding(crate::specs::Facing::meets))]
 fn meets_row(region: &[u8], mode: PackedRefs, name: NameNumber, j: usize) -> bool
     requires laid { Laid region.now }
     requires j_in_bounds { j < length (rows_in (view region.now).prepared) }
     ensures { result ≡ meets (view region.now) mode (rows_in (view region.now).prepared) name.0 j }
 {
-    if !are_nested(region, name, region::row_name(region, j)) {
-        return false;
-    }
-    will_write(region, mode, region::row_at(region, j))
+    are_nested(region, name, region::row_name(region, j))
+        && will_write(region, mode, region::row_at(region, j))
 }
 
 fn meets_earlier(region: &[u8], mode: PackedRefs, i: usize) -> bool
@@ -165,35 +139,24 @@ fn meets_earlier(region: &[u8], mode: PackedRefs, i: usize) -> bool
     ensures { result ≡ meets_earlier (view region.now) mode (rows_in (view region.now).prepared) i }
 {
     let name = region::row_name(region, i);
-    let mut j: usize = 0;
-    while j < i {
-        let yes = meets_row(region, mode, name, j);
-        if yes {
+    for j in 0..i {
+        if meets_row(region, mode, name, j) {
             return true;
-        } else {
-            j += 1;
         }
     }
     false
 }
 
 // 25, of the row at place i with this existing value.
-pub fn conflicts(region: &[u8], mode: PackedRefs, i: usize, existing: OptionTarget) -> bool
+#[tactic(auto, unfolding(model::specs::Beneath::conflicts))]
+pub fn conflicts(region: &[u8], mode: PackedRefs, i: usize, existing: Option<Target>) -> bool
     requires laid { Laid region.now }
     requires i_in_bounds { i < length (rows_in (view region.now).prepared) }
     ensures { result ≡ conflicts (view region.now) mode (rows_in (view region.now).prepared) i existing }
 {
     let row = region::row_at(region, i);
-    let update = row.update;
-    let name = update.name;
-    if loose_above(region, name) {
-        return true;
-    }
-    if !would_write(region, mode, row, existing) {
-        return false;
-    }
-    if loose_beneath(region, name) {
-        return true;
-    }
-    meets_earlier(region, mode, i)
+    let name = row.update.name;
+    loose_above(region, name)
+        || would_write(region, mode, row, existing)
+            && (loose_beneath(region, name) || meets_earlier(region, mode, i))
 }

@@ -6,29 +6,38 @@ ghost use Rattle.std.specs.Prelude.{◌<◌, length};
 ghost use Rattle.model.specs.Store.{count, rows_in};
 ghost use Rattle.region.specs.Region.{view, Laid};
 
-use model::Loose;
+mod nested;
+
+use model::{Lock, Loose};
+use std::fmt::Display;
+use std::{fmt, io};
 use target::{NameNumber, ObjectNumber};
-use transaction::ParentIndex;
+use transaction::Edit;
 
-// What is said of a name, a line or a row that is not as it must be.
-fn fault(ok: bool, of: &[u8], place: usize, what: &[u8]) {
-    if ok {
-        return;
+// What is not as it must be.
+#[derive(Clone, Copy)]
+enum Of {
+    Name(NameNumber),
+    Line(usize),
+    Row(usize),
+}
+
+impl fmt::Display for Of {
+    fn fmt<W: fmt::Write>(&self, f: &mut fmt::Formatter<W>) -> fmt::Result {
+        match self {
+            Of::Name(n) => write!(f, "name {}", n.0),
+            Of::Line(i) => write!(f, "line {i}"),
+            Of::Row(i) => write!(f, "row {i}"),
+        }
     }
-    say::number(of, place as u64);
-    say::text(what);
 }
 
-fn name_fault(ok: bool, n: NameNumber, what: &[u8]) {
-    fault(ok, b"  name ", n.place(), what);
-}
-
-fn line_fault(ok: bool, i: usize, what: &[u8]) {
-    fault(ok, b"  line ", i, what);
-}
-
-fn row_fault(ok: bool, i: usize, what: &[u8]) {
-    fault(ok, b"  row ", i, what);
+// Says what is wrong with it, unless it is fine.
+fn fault(rt: &impl Print, fine: bool, of: Of, what: impl Display + Drop) -> io::Result<()> {
+    if fine {
+        return Ok(());
+    }
+    println!(rt; "  {of} {what}")
 }
 
 // ---- names
@@ -38,9 +47,8 @@ fn link_ok(region: &[u8], n: NameNumber) -> bool
     requires n_bound { n.0 < count (view region.now) }
 {
     match region::loose_at(region, n) {
-        Loose::None => true,
-        Loose::Target(t) => rules::target_ok(region::count_names(region), t),
-        Loose::Broken => true,
+        Loose::Target(target) => rules::target_ok(region::count_names(region), target),
+        Loose::None | Loose::Broken => true,
     }
 }
 
@@ -48,377 +56,269 @@ fn packed_ok(region: &[u8], n: NameNumber) -> bool
     requires laid { Laid region.now }
     requires n_bound { n.0 < count (view region.now) }
 {
-    if kept::is_packed(region::packed_at(region, n)) {
-        return rows::name_packable(region, n);
-    }
-    true
-}
-
-fn name_twin(region: &[u8], n: NameNumber, m: NameNumber)
-    requires laid { Laid region.now }
-    requires n_bound { n.0 < count (view region.now) }
-    requires m_bound { m.0 < count (view region.now) }
-{
-    if word::same(region::name_at(region, n), region::name_at(region, m)) {
-        name_fault(false, n, b" is spelled as name ");
-        say::number(b"", m.0 as u64);
-        say::end();
-    }
+    !kept::is_packed(region::packed_at(region, n)) || rows::name_packable(region, n)
 }
 
 // The names before it that are spelled as it is.
-fn name_twins(region: &[u8], n: NameNumber)
+fn name_twins(rt: &impl Print, region: &[u8], n: NameNumber) -> io::Result<()>
     requires laid { Laid region.now }
     requires n_bound { n.0 < count (view region.now) }
 {
-    let place = n.place();
-    let mut m: usize = 0;
-    while m < place {
-        name_twin(region, n, NameNumber::at(m));
-        m += 1;
+    let name = region::name_at(region, n);
+    for place in 0..n.place() {
+        let earlier = NameNumber::at(place);
+        let twin = word::same(name, region::name_at(region, earlier));
+        fault(
+            rt,
+            !twin,
+            Of::Name(n),
+            format_args!("is spelled as name {place}"),
+        )?;
     }
+    Ok(())
 }
 
-fn name(region: &[u8], n: NameNumber)
+fn name(rt: &impl Print, region: &[u8], n: NameNumber) -> io::Result<()>
     requires laid { Laid region.now }
     requires n_bound { n.0 < count (view region.now) }
 {
+    let of = Of::Name(n);
     let spelled = names::is_name(region::name_at(region, n));
-    name_fault(spelled, n, b" is not spelled as a name\n");
-    name_fault(link_ok(region, n), n, b" links to no registered name\n");
-    name_fault(packed_ok(region, n), n, b" is packed, and not packable\n");
-    name_twins(region, n);
+    fault(rt, spelled, of, "is not spelled as a name")?;
+    fault(rt, link_ok(region, n), of, "links to no registered name")?;
+    fault(rt, packed_ok(region, n), of, "is packed, and not packable")?;
+    name_twins(rt, region, n)
 }
 
-fn of_names(region: &[u8])
+fn names(rt: &impl Print, region: &[u8]) -> io::Result<()>
     requires { Laid region.now }
 {
-    say::text(b"rules of names are broken\n");
-    let count = region::count_names(region);
-    let mut n: usize = 0;
-    while n < count {
-        name(region, NameNumber::at(n));
-        n += 1;
+    println!(rt; "rules of names are broken")?;
+    for n in 0..region::count_names(region) {
+        name(rt, region, NameNumber::at(n))?;
     }
+    Ok(())
 }
 
 // ---- lines
 
-fn line(region: &[u8], i: usize)
+fn line(rt: &impl Print, region: &[u8], i: usize) -> io::Result<()>
     requires laid { Laid region.now }
     requires i_in_bounds { i < length (view region.now).lines }
 {
-    let l = region::line_at(region, i);
-    let of = l.name;
-    let new = l.new;
-    let committer = l.committer;
-    line_fault(
-        of.place() < region::count_names(region),
-        i,
-        b" has no registered name\n",
-    );
-    line_fault(new.0 != ObjectNumber::NULL, i, b" leads to object 0\n");
-    line_fault(committer != 0, i, b" has no committer\n");
+    let of = Of::Line(i);
+    let line = region::line_at(region, i);
+    let registered = line.name.place() < region::count_names(region);
+    fault(rt, registered, of, "has no registered name")?;
+    fault(
+        rt,
+        line.new.0 != ObjectNumber::NULL,
+        of,
+        "leads to object 0",
+    )?;
+    fault(rt, line.committer != 0, of, "has no committer")
 }
 
-fn of_lines(region: &[u8])
+fn lines(rt: &impl Print, region: &[u8]) -> io::Result<()>
     requires { Laid region.now }
 {
-    say::text(b"rules of lines are broken\n");
-    let lines = region::count_lines(region);
-    let mut i: usize = 0;
-    while i < lines {
-        line(region, i);
-        i += 1;
+    println!(rt; "rules of lines are broken")?;
+    for i in 0..region::count_lines(region) {
+        line(rt, region, i)?;
     }
+    Ok(())
 }
 
 // ---- rows
+
+fn targets(rt: &impl Print, region: &[u8], i: usize) -> io::Result<()>
+    requires laid { Laid region.now }
+    requires i_in_bounds { i < length (rows_in (view region.now).prepared) }
+{
+    let of = Of::Row(i);
+    let change = region::row_at(region, i).update.change;
+    let count = region::count_names(region);
+    let expected = rules::option_ok(count, change.previous_value());
+    fault(rt, expected, of, "expects a link to no registered name")?;
+    let new = rules::option_ok(count, change.new_value());
+    fault(rt, new, of, "makes a link to no registered name")
+}
 
 // Whether the parent, if there is one, is an earlier row.
 fn parent_ok(region: &[u8], i: usize) -> bool
     requires laid { Laid region.now }
     requires i_in_bounds { i < length (rows_in (view region.now).prepared) }
 {
-    let row = region::row_at(region, i);
-    let parent = row.parent_index;
-    match parent {
-        ParentIndex::NoParent => true,
-        ParentIndex::Parent(j) => j < i,
-    }
+    region::row_at(region, i)
+        .parent_index
+        .is_none_or(|parent| parent < i)
 }
 
-// The place of a row's parent; its own where it has none.
-fn parent_of(region: &[u8], i: usize) -> usize
+// The parent of a row, if it has one and that is an earlier row.
+fn earlier_parent(region: &[u8], i: usize) -> Option<usize>
     requires { Laid region.now }
 {
     if i >= region::count_rows(region) {
-        return i;
+        return None;
     }
-    let row = region::row_at(region, i);
-    let parent = row.parent_index;
-    match parent {
-        ParentIndex::NoParent => i,
-        ParentIndex::Parent(j) => j,
-    }
+    region::row_at(region, i)
+        .parent_index
+        .filter(|&parent| parent < i)
 }
 
-// Five times up, each time to an earlier row.
+// Whether a row has more than four ancestors: five steps up, each time to an earlier row.
 fn is_deep(region: &[u8], i: usize) -> bool
     requires { Laid region.now }
 {
-    let a = parent_of(region, i);
-    let b = parent_of(region, a);
-    let c = parent_of(region, b);
-    let d = parent_of(region, c);
-    let e = parent_of(region, d);
-    e < d && d < c && c < b && b < a && a < i
-}
-
-fn ancestors(region: &[u8], i: usize)
-    requires laid { Laid region.now }
-    requires i_in_bounds { i < length (rows_in (view region.now).prepared) }
-{
-    row_fault(
-        parent_ok(region, i),
-        i,
-        b" has a parent that is no earlier row\n",
-    );
-    row_fault(!is_deep(region, i), i, b" has more than four ancestors\n");
-}
-
-fn targets(region: &[u8], i: usize)
-    requires laid { Laid region.now }
-    requires i_in_bounds { i < length (rows_in (view region.now).prepared) }
-{
-    let row = region::row_at(region, i);
-    let update = row.update;
-    let change = update.change;
-    let count = region::count_names(region);
-    let expected = rules::option_ok(count, change.previous_value());
-    let new = rules::option_ok(count, change.new_value());
-    row_fault(expected, i, b" expects a link to no registered name\n");
-    row_fault(new, i, b" makes a link to no registered name\n");
-}
-
-fn row_twin(region: &[u8], i: usize, n: NameNumber, j: usize)
-    requires laid { Laid region.now }
-    requires j_in_bounds { j < length (rows_in (view region.now).prepared) }
-{
-    let name = region::row_name(region, j);
-    if name.eq(n) {
-        row_fault(false, i, b" has the name of row ");
-        say::number(b"", j as u64);
-        say::end();
+    let mut row = i;
+    for _ in 0..=Edit::ANCESTORS {
+        match earlier_parent(region, row) {
+            Some(parent) => row = parent,
+            None => return false,
+        }
     }
+    true
 }
 
-fn row_twins(region: &[u8], i: usize)
-    requires laid { Laid region.now }
-    requires i_in_bounds { i < length (rows_in (view region.now).prepared) }
-{
-    let n = region::row_name(region, i);
-    row_fault(
-        n.place() < region::count_names(region),
-        i,
-        b" has no registered name\n",
-    );
-    let mut j: usize = 0;
-    while j < i {
-        row_twin(region, i, n, j);
-        j += 1;
-    }
-}
-
-fn row(region: &[u8], i: usize)
-    requires laid { Laid region.now }
-    requires i_in_bounds { i < length (rows_in (view region.now).prepared) }
-{
-    targets(region, i);
-    ancestors(region, i);
-    row_twins(region, i);
-}
-
-fn of_rows(region: &[u8])
-    requires { Laid region.now }
-{
-    say::text(b"rules of rows are broken\n");
-    let rows = region::count_rows(region);
-    let mut i: usize = 0;
-    while i < rows {
-        row(region, i);
-        i += 1;
-    }
-}
-
-// ---- locks
-
-fn row_keeps(region: &[u8], n: NameNumber, i: usize) -> bool
+// The rows before it that have its name.
+fn row_twins(rt: &impl Print, region: &[u8], i: usize) -> io::Result<()>
     requires laid { Laid region.now }
     requires i_in_bounds { i < length (rows_in (view region.now).prepared) }
 {
     let name = region::row_name(region, i);
-    if name.eq(n) {
-        return rows::keeps_lock(region, region::mode(region), region::row_at(region, i));
+    for j in 0..i {
+        let twin = region::row_name(region, j) == name;
+        fault(
+            rt,
+            !twin,
+            Of::Row(i),
+            format_args!("has the name of row {j}"),
+        )?;
     }
-    false
+    Ok(())
 }
 
+fn row(rt: &impl Print, region: &[u8], i: usize) -> io::Result<()>
+    requires laid { Laid region.now }
+    requires i_in_bounds { i < length (rows_in (view region.now).prepared) }
+{
+    let of = Of::Row(i);
+    targets(rt, region, i)?;
+    fault(
+        rt,
+        parent_ok(region, i),
+        of,
+        "has a parent that is no earlier row",
+    )?;
+    fault(rt, !is_deep(region, i), of, "has more than four ancestors")?;
+    let registered = region::row_name(region, i).place() < region::count_names(region);
+    fault(rt, registered, of, "has no registered name")?;
+    row_twins(rt, region, i)
+}
+
+fn rows(rt: &impl Print, region: &[u8]) -> io::Result<()>
+    requires { Laid region.now }
+{
+    println!(rt; "rules of rows are broken")?;
+    for i in 0..region::count_rows(region) {
+        row(rt, region, i)?;
+    }
+    Ok(())
+}
+
+// ---- locks
+
+// Whether a row keeps the lock of its name.
 fn any_keeps(region: &[u8], n: NameNumber) -> bool
     requires { Laid region.now }
 {
-    let rows = region::count_rows(region);
-    let mut i: usize = 0;
-    while i < rows {
-        let keeps = row_keeps(region, n, i);
-        if keeps {
+    let mode = region::mode(region);
+    for i in 0..region::count_rows(region) {
+        let of_name = region::row_name(region, i) == n;
+        if of_name && rows::keeps_lock(region, mode, region::row_at(region, i)) {
             return true;
-        } else {
-            i += 1;
         }
     }
     false
 }
 
-fn lock(region: &[u8], n: NameNumber)
+fn lock(rt: &impl Print, region: &[u8], n: NameNumber) -> io::Result<()>
     requires laid { Laid region.now }
     requires n_bound { n.0 < count (view region.now) }
 {
-    let ours = slots::lock_byte(region::lock_at(region, n)) == 2;
+    let of = Of::Name(n);
+    let ours = region::lock_at(region, n) == Lock::Ours;
     let keeps = any_keeps(region, n);
-    if ours == keeps {
-        return;
-    }
-    name_fault(!ours, n, b" is locked by us, and no row keeps that lock\n");
-    name_fault(
-        ours,
-        n,
-        b" is not locked by us, and a row keeps that lock\n",
-    );
+    fault(
+        rt,
+        !ours || keeps,
+        of,
+        "is locked by us, and no row keeps that lock",
+    )?;
+    fault(
+        rt,
+        ours || !keeps,
+        of,
+        "is not locked by us, and a row keeps that lock",
+    )
 }
 
-fn packed_lock(region: &[u8])
+fn packed_lock(rt: &impl Print, region: &[u8]) -> io::Result<()>
     requires { Laid region.now }
 {
-    let ours = slots::lock_byte(region::packed_lock(region)) == 2;
-    let opened = kept::opens_table(region);
-    if ours == opened {
-        return;
-    }
-    if ours {
-        say::text(b"  the packed table is locked by us, and the rows do not open it\n");
-    } else {
-        say::text(b"  the packed table is not locked by us, and the rows open it\n");
+    let ours = region::packed_lock(region) == Lock::Ours;
+    match (ours, kept::opens_table(region)) {
+        (true, false) => {
+            println!(rt; "  the packed table is locked by us, and the rows do not open it")
+        }
+        (false, true) => {
+            println!(rt; "  the packed table is not locked by us, and the rows open it")
+        }
+        _ => Ok(()),
     }
 }
 
-fn of_locks(region: &[u8])
+fn locks(rt: &impl Print, region: &[u8]) -> io::Result<()>
     requires { Laid region.now }
 {
-    say::text(b"rules of locks are broken\n");
-    packed_lock(region);
-    let count = region::count_names(region);
-    let mut n: usize = 0;
-    while n < count {
-        lock(region, NameNumber::at(n));
-        n += 1;
+    println!(rt; "rules of locks are broken")?;
+    packed_lock(rt, region)?;
+    for n in 0..region::count_names(region) {
+        lock(rt, region, NameNumber::at(n))?;
     }
-}
-
-// ---- names beneath names
-
-fn nested_name(region: &[u8], n: NameNumber)
-    requires { Laid region.now }
-{
-    if beneath::is_loose(region, n) {
-        let ok = !beneath::loose_above(region, n);
-        name_fault(ok, n, b" has a loose value beneath another's\n");
-    }
-}
-
-fn nested_names(region: &[u8])
-    requires { Laid region.now }
-{
-    let count = region::count_names(region);
-    let mut n: usize = 0;
-    while n < count {
-        nested_name(region, NameNumber::at(n));
-        n += 1;
-    }
-}
-
-fn nested_row(region: &[u8], i: usize)
-    requires laid { Laid region.now }
-    requires i_in_bounds { i < length (rows_in (view region.now).prepared) }
-{
-    let row = region::row_at(region, i);
-    let update = row.update;
-    let change = update.change;
-    let ok = !beneath::conflicts(region, region::mode(region), i, change.existing());
-    row_fault(ok, i, b" is on a name that another is in the way of\n");
-}
-
-fn nested_rows(region: &[u8])
-    requires { Laid region.now }
-{
-    let rows = region::count_rows(region);
-    let mut i: usize = 0;
-    while i < rows {
-        nested_row(region, i);
-        i += 1;
-    }
-}
-
-fn of_nests(region: &[u8])
-    requires { Laid region.now }
-{
-    say::text(b"rules of names beneath names are broken\n");
-    nested_names(region);
-    nested_rows(region);
-}
-
-// Asked only where every row's name is registered.
-fn nests_fine(region: &[u8]) -> bool
-    requires { Laid region.now }
-{
-    if !rules::rows_fine(region) {
-        return true;
-    }
-    nests::nests_fine(region)
+    Ok(())
 }
 
 // ---- all groups
 
-fn of_room(region: &[u8])
+fn room(rt: &impl Print, region: &[u8]) -> io::Result<()>
     requires { Laid region.now }
 {
-    say::number(
-        b"there is no room for the lines that are due: ",
-        kept::count_due(region) as u64,
-    );
-    say::number(b", beside log lines: ", region::count_lines(region) as u64);
-    say::end();
+    let due = kept::count_due(region);
+    let lines = region::count_lines(region);
+    println!(rt; "there is no room for the lines that are due: {due}, beside log lines: {lines}")
 }
 
-pub fn all(region: &[u8])
+pub fn all(rt: &impl Print, region: &[u8]) -> io::Result<()>
     requires { Laid region.now }
 {
     if !rules::names_fine(region) {
-        of_names(region);
+        names(rt, region)?;
     }
     if !rules::lines_fine(region) {
-        of_lines(region);
+        lines(rt, region)?;
     }
     if !rules::rows_fine(region) {
-        of_rows(region);
+        rows(rt, region)?;
     }
     if !kept::locks_fine(region) {
-        of_locks(region);
+        locks(rt, region)?;
     }
     if !kept::room_fine(region) {
-        of_room(region);
+        room(rt, region)?;
     }
-    if !nests_fine(region) {
-        of_nests(region);
+    if !nested::is_fine(region) {
+        nested::all(rt, region)?;
     }
+    Ok(())
 }

@@ -1,8 +1,9 @@
 -- What a read of a name answers in a region that holds a store: the value that the model reads, and no other. Assumes nothing.
+use Rattle.std.specs.Prelude.{Option, Some, None}
+use Rattle.target.specs.declared.Target.{Target}
 use mathlib.Core.Path.{◌≡◌, refl, sym, ap, ap₂, ◌∙◌}
 use mathlib.Core.Bool.{Bool, true, false, cond}
 use mathlib.Core.List.{List, [], ◌++◌, append_assoc, append-nil}
-use mathlib.Core.Option.{some}
 use Prim.Native.Nat.{ℕ, zero, suc, ◌≤◌, ◌<◌, ◌^◌}
 use native.Mathlib.Nat.{le_trans}
 use native.Mathlib.Omega.{arith}
@@ -14,8 +15,6 @@ use Rattle.word.specs.Be.{be, val}
 use Rattle.word.proofs.Be.{length_be, val_be}
 use Rattle.target.specs.declared.NameNumber.{NameNumber}
 use Rattle.target.specs.declared.Target.TheVariants.{Object, Symbolic}
-use Rattle.target.specs.declared.OptionTarget.{OptionTarget}
-use Rattle.target.specs.declared.OptionTarget.TheVariants.{Absent, Present}
 use Rattle.target.specs.declared.Found.{Found}
 use Rattle.target.specs.Found.{value_in}
 use Rattle.target.specs.Fields.{target_byte, target_number}
@@ -57,28 +56,28 @@ one_place a b xs ys h g e = (
     rest a xs = drop_at (be 8 a) xs 8 (length_be 8 a)
 
 -- a value by its two places
-by_places : ℕ → ℕ → OptionTarget
-by_places zero x = Absent
-by_places (suc zero) x = Present (Object (record { 0 = x }))
-by_places (suc (suc k)) x = Present (Symbolic (record { 0 = x }))
+by_places : ℕ → ℕ → Option Target
+by_places zero x = None
+by_places (suc zero) x = Some (Object (record { 0 = x }))
+by_places (suc (suc k)) x = Some (Symbolic (record { 0 = x }))
 
-places_back : (t : OptionTarget) → by_places (target_byte t) (target_number t) ≡ t
+places_back : (t : Option Target) → by_places (target_byte t) (target_number t) ≡ t
 unfolding by_places
-places_back Absent = refl
-places_back (Present (Object o)) = refl
-places_back (Present (Symbolic n)) = refl
+places_back None = refl
+places_back (Some (Object o)) = refl
+places_back (Some (Symbolic n)) = refl
 
-kind_fits : (t : OptionTarget) → target_byte t < 2 ^ 64
-kind_fits Absent = lit< tt
-kind_fits (Present (Object o)) = lit< tt
-kind_fits (Present (Symbolic n)) = lit< tt
+kind_fits : (t : Option Target) → target_byte t < 2 ^ 64
+kind_fits None = lit< tt
+kind_fits (Some (Object o)) = lit< tt
+kind_fits (Some (Symbolic n)) = lit< tt
 
-number_fits : (t : OptionTarget) → FitsOption t → target_number t < 2 ^ 64
-number_fits Absent f = lit< tt
-number_fits (Present (Object o)) f = f.1
-number_fits (Present (Symbolic n)) f = le_trans f (lit≤ tt)
+number_fits : (t : Option Target) → FitsOption t → target_number t < 2 ^ 64
+number_fits None f = lit< tt
+number_fits (Some (Object o)) f = f.1
+number_fits (Some (Symbolic n)) f = le_trans f (lit≤ tt)
 
-one_value : (t u : OptionTarget) → FitsOption t → FitsOption u → value_bytes t ≡ value_bytes u → t ≡ u
+one_value : (t u : Option Target) → FitsOption t → FitsOption u → value_bytes t ≡ value_bytes u → t ≡ u
 unfolding record_of
 one_value t u f g e =
     let p = one_place (target_byte t) (target_byte u) _ _ (kind_fits t) (kind_fits u) e in
@@ -115,14 +114,14 @@ module _ (s : Store) (f : Fine s) where
 
 -- ---- what a read answers
 
-module _ (r : List ℕ) (d : decode r ≡ some (view r)) (n : NameNumber) where
+module _ (r : List ℕ) (d : decode r ≡ Some (view r)) (n : NameNumber) where
   -- a registered name's value, and the region as it is
   module _ (h : n.0 < count (view r)) where
     near : (lent : List ℕ) → length lent ≡ 128 → call (read_name n.0) r lent ≡ out_of (done (view r) (value (found_of true (entry_of (view r) n)))) r
     unfolding step name_read
     near lent sized = does_step (read_name n.0) r lent (view r) d sized ∙ rw (lt-ltb n.0 (count (view r)) h)
 
-    pub reads_to : (t : OptionTarget) → value_bytes (reading (view r) n) ≡ value_bytes t → Reads n.0 r t
+    pub reads_to : (t : Option Target) → value_bytes (reading (view r) n) ≡ value_bytes t → Reads n.0 r t
     unfolding out_of answer_of reading
     reads_to t e =
         record {
@@ -139,7 +138,7 @@ module _ (r : List ℕ) (d : decode r ≡ some (view r)) (n : NameNumber) where
   far h lent sized = does_step (read_name n.0) r lent (view r) d sized ∙ rw (le-ltb n.0 (count (view r)) h)
 
   -- so a name with an answer is registered, and has its value for its answer
-  pub reads_of : (t : OptionTarget) → Reads n.0 r t
+  pub reads_of : (t : Option Target) → Reads n.0 r t
       → (n.0 < count (view r)) × (value_bytes (reading (view r) n) ≡ value_bytes t)
   unfolding out_of answer_of refusal_answer reading
   reads_of t reads = go (ltb n.0 (count (view r))) refl
@@ -166,7 +165,7 @@ module _ (r : List ℕ) (d : decode r ≡ some (view r)) (n : NameNumber) where
           absurd (omega arith)
 
 -- in a store that obeys the rules: the answer is the value
-pub reads_as : (r : List ℕ) → decode r ≡ some (view r) → (n : NameNumber) (t : OptionTarget) → FitsOption t → Reads n.0 r t
+pub reads_as : (r : List ℕ) → decode r ≡ Some (view r) → (n : NameNumber) (t : Option Target) → FitsOption t → Reads n.0 r t
     → reading (view r) n ≡ t
 reads_as r d n t f reads =
     let x = reads_of r d n t reads in one_value (reading (view r) n) t (reading_fits (view r) (decoded r (view r) d).0 n) f x.1

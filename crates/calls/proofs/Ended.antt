@@ -1,8 +1,8 @@
 -- What the reply to a commit of a prepared transaction says, by its number and its report. Assumes nothing.
+use Rattle.std.specs.Prelude.{Option, Some, None}
 use mathlib.Core.Path.{◌≡◌, refl, sym, ap, ◌∙◌, subst}
 use mathlib.Core.Bool.{Bool, true, false, and-false}
 use mathlib.Core.List.{List, [], ◌∷◌}
-use mathlib.Core.Option.{Option, none, some}
 use Prim.Native.Nat.{ℕ, ◌≤◌, ◌<◌}
 use native.Mathlib.Omega.{arith}
 use lib.ListN.{length, take}
@@ -35,7 +35,7 @@ applied_count (w ∷ ws) s = applied_count ws (apply w s) ∙ apply_count w s
 
 -- what a reply's report, its 0 and its 16 say of it
 abbrev Reports : ℕ → Reply → Type 0
-Reports m reply = reported reply ≡ some m → record_of (answer_of name_offset reply).places ≡ filled (m ∷ [])
+Reports m reply = reported reply ≡ Some m → record_of (answer_of name_offset reply).places ≡ filled (m ∷ [])
 
 abbrev Done : Reply → Type 0
 Done reply = 0 ≡ (answer_of name_offset reply).number → (t : Store) × (g : Given) × (reply ≡ done t g)
@@ -69,8 +69,8 @@ module _ (s : Store) (p : is_prepared s.prepared ≡ true) (c k : ℕ) where
           ∙ applied_count (take k (permitted (by c) (writes (by c) s))) s
 
       go : (why : Option Stop) → ran.stop ≡ why → count (leaves (ended ran why) s) ≡ count s
-      go none e = names
-      go (some w) e = names
+      go None e = names
+      go (Some w) e = names
 
   -- the number says why it ended
   pub numbered : c ≤ 65535 → (answer_of name_offset (step (commit c k) s)).number ≡ number_at c k s
@@ -90,18 +90,18 @@ module _ (s : Store) (p : is_prepared s.prepared ≡ true) (c k : ℕ) where
       many = ap length (sym may)
 
       go : (why : Option Stop) → ran.stop ≡ why → (answer_of name_offset (ended ran why)).number ≡ number_at c k s
-      go none e =
+      go None e =
           let w = run_whole (by c) k (writes (by c) s) 0 s e in
           let l : m ≤ k = w.1 in
           let a : n ≡ m = ap length (sym may ∙ w.0) in
           rw (le-ltb k m l, and-false (leb k n), le-ltb n m (omega arith))
-      go (some no_committer) e =
+      go (Some no_committer) e =
           let u = run_unsigned (by c) k (writes (by c) s) 0 s e in
           let b : length (permitted (by c) (writes (by c) s)) < k = u.0 in
           let d : length (permitted (by c) (writes (by c) s)) < m = u.1 in
           let e : n ≡ length (permitted (by c) (writes (by c) s)) = many in
           rw (lt-leb k n (omega arith), lt-ltb n m (omega arith))
-      go (some used_up) e =
+      go (Some used_up) e =
           let u = run_used (by c) k (writes (by c) s) 0 s e in
           let b : k ≤ length (permitted (by c) (writes (by c) s)) = u.0 in
           let e : n ≡ length (permitted (by c) (writes (by c) s)) = many in
@@ -113,8 +113,8 @@ module _ (s : Store) (p : is_prepared s.prepared ≡ true) (c k : ℕ) where
   reports m = by_way (Reports m) (λ e. absurd (let z : ◌≡◌ {A = ℕ} 0 1 = cc in omega arith)) go
     where
       go : (why : Option Stop) → ran.stop ≡ why → Reports m (ended ran why)
-      go none q e = ap (λ (n : ℕ). filled (n ∷ [])) (cc)
-      go (some w) q e = ap (λ (n : ℕ). filled (n ∷ [])) (cc)
+      go None q e = ap (λ (n : ℕ). filled (n ∷ [])) (cc)
+      go (Some w) q e = ap (λ (n : ℕ). filled (n ∷ [])) (cc)
 
   -- 0: it is done
   pub done_by : Done (step (commit c k) s)
@@ -122,12 +122,12 @@ module _ (s : Store) (p : is_prepared s.prepared ≡ true) (c k : ℕ) where
   done_by = by_way Done (λ e. absurd (omega arith)) go
     where
       go : (why : Option Stop) → ran.stop ≡ why → Done (ended ran why)
-      go none q e = (_, _, refl)
-      go (some no_committer) q e = absurd (omega arith)
-      go (some used_up) q e = absurd (omega arith)
+      go None q e = (_, _, refl)
+      go (Some no_committer) q e = absurd (omega arith)
+      go (Some used_up) q e = absurd (omega arith)
 
   -- 16: it is stopped by a log line, and there is no committer
-  unsigned : ran.stop ≡ some no_committer → c ≡ 0
+  unsigned : ran.stop ≡ Some no_committer → c ≡ 0
   unfolding committing
   unsigned q = go (eqb c 0) refl
     where
@@ -144,6 +144,6 @@ module _ (s : Store) (p : is_prepared s.prepared ≡ true) (c k : ℕ) where
   unsigned_by = by_way (Unsigned c) (λ e. absurd (omega arith)) go
     where
       go : (why : Option Stop) → ran.stop ≡ why → Unsigned c (ended ran why)
-      go none q e = absurd (omega arith)
-      go (some no_committer) q e = (unsigned q, _, _, refl)
-      go (some used_up) q e = absurd (omega arith)
+      go None q e = absurd (omega arith)
+      go (Some no_committer) q e = (unsigned q, _, _, refl)
+      go (Some used_up) q e = absurd (omega arith)

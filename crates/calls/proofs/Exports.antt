@@ -1,8 +1,8 @@
 -- What specs/Exports.antt states, proved. Assumes nothing.
+use Rattle.std.specs.Prelude.{Option, Some, None, Result, Ok, Err}
 use mathlib.Core.Path.{◌≡◌, refl, sym, ap, subst, ◌∙◌}
 use mathlib.Core.Bool.{Bool, true, false, cond}
 use mathlib.Core.List.{List, [], ◌∷◌}
-use mathlib.Core.Option.{Option, none, some}
 use Prim.Native.Nat.{ℕ}
 use native.Mathlib.Omega.{arith}
 use lib.ListN.{length}
@@ -14,8 +14,7 @@ use Rattle.model.specs.declared.Refusal.{Refusal}
 use Rattle.model.specs.declared.Refusal.TheVariants.{BadRegion, Malformed, NotRegistered, ReferenceCycle, TooManyRows, MultipleEdits, PackedTransactionAcquire, LockAcquire, DeleteReferenceMustExist, MustNotExist, MustExist, ReferenceOutOfDate, DeleteMustNotExist, LogFull, WrongState, BadName, NamesFull, WrongLock, BadLoad, NothingThere, MalformedRecord, UnknownVersion, NameConflict, ReceiverFull, MalformedLine, TextTooLong, ShortBuffer}
 use Rattle.model.specs.Store.{Store, Prepared, empty}
 use Rattle.model.specs.Commit.Stop.{no_committer, used_up}
-use Rattle.model.specs.Outcome.{Outcome, refuse_if, or_refuse}
-use Rattle.model.specs.Outcome.Outcome.{refuse, pass}
+use Rattle.model.specs.Outcome.{refuse_if, or_refuse}
 use Rattle.model.specs.Reply.{Call, Given, Reply, ◌>>=◌, ◌>>◌}
 use Rattle.model.specs.Reply.Call.{start, add_name, name_bytes, load_loose, load_packed, place_lock, lift_lock, prepare, commit, rollback, read_name, read_line, read_row, write_packed, read_packed}
 use Rattle.model.specs.Reply.Reply.{done, stopped, refused}
@@ -26,7 +25,7 @@ use Rattle.model.specs.Calls.{step, rows_prepared, text_written}
 use Rattle.model.specs.Prepare.{rows_for, held as holds}
 use Rattle.model.specs.Numbers.{Answer, answer_of, refusal_answer}
 use Rattle.answers.specs.declared.Verdict.{Verdict}
-use Rattle.answers.specs.Answers.{answer_by}
+use Rattle.answers.specs.Answers.{answer_by, answered, verdict_of}
 use Rattle.model.specs.Reached.{Reached, leaves}
 use Rattle.model.specs.Reached.Reached.{begun, after}
 use Rattle.model.proofs.Kept.{reached_sound}
@@ -50,9 +49,13 @@ determined o n n' a₁ a₂ lent₁ lent₂ d e = (d.code ∙ sym e.code, d.answ
 verdict : Answer → Verdict
 verdict x = record { number = x.number; places = x.places }
 
-pub one_verdict : (v v' : Verdict) → answer_by v ≡ answer_by v' → v ≡ v'
+verdict_is : (v : Result Verdict Refusal) → verdict_of v ≡ verdict (answered v)
 unfolding verdict
-one_verdict v v' e = ap verdict e
+verdict_is (Ok v) = refl
+verdict_is (Err x) = refl
+
+pub one_verdict : (v v' : Result Verdict Refusal) → answered v ≡ answered v' → verdict_of v ≡ verdict_of v'
+one_verdict v v' e = verdict_is v ∙ ap verdict e ∙ sym (verdict_is v')
 
 pub below_determined : BelowDetermined
 below_determined reply r v v' r₁ r₂ d e = (one_verdict v v' (d.answer ∙ sym e.answer), d.region ∙ sym e.region)
@@ -91,11 +94,11 @@ pub only : (r r' : List ℕ) → r ∷ [] ≡ r' ∷ [] → r ≡ r'
 only r r' e = cc
 
 -- a region that decodes has the size that start asks for
-decoded_size : (r : List ℕ) (s : Store) → decode r ≡ some s → length r ≡ region_size
+decoded_size : (r : List ℕ) (s : Store) → decode r ≡ Some s → length r ≡ region_size
 decoded_size r s e = ap length (sym (decoded r s e).1) ∙ length_image s
 
 -- every call finds the store that is decoded; start does not look at it
-pub replies_to : (c : Call) (r : List ℕ) (s : Store) → decode r ≡ some s → reply_to c r ≡ step c s
+pub replies_to : (c : Call) (r : List ℕ) (s : Store) → decode r ≡ Some s → reply_to c r ≡ step c s
 unfolding reply_to step
 replies_to (start k) r s e = rw (eq-eqb (length r) region_size (decoded_size r s e))
 replies_to (add_name bytes) r s e = rw e
@@ -118,27 +121,27 @@ left_image (done t given) r s e = refl
 left_image (stopped why t made) r s e = refl
 left_image (refused x) r s e = e
 
-reached_image : (r : List ℕ) (s : Store) → Reached s → r ≡ image s → (t : Store) × (decode r ≡ some t) × Reached t
+reached_image : (r : List ℕ) (s : Store) → Reached s → r ≡ image s → (t : Store) × (decode r ≡ Some t) × Reached t
 reached_image r s reached e = (s, ap decode e ∙ decode_image s (reached_sound s reached).fine, reached)
 
 -- a call with a record of 128 bytes does the model's step,
-pub does_step : (c : Call) (r a : List ℕ) (s : Store) → decode r ≡ some s → length a ≡ 128 → call c r a ≡ out_of (step c s) r
+pub does_step : (c : Call) (r a : List ℕ) (s : Store) → decode r ≡ Some s → length a ≡ 128 → call c r a ≡ out_of (step c s) r
 unfolding call
 does_step c r a s e l = rw (eq-eqb (length a) 128 l) (ap (λ (reply : Reply). out_of reply r) (replies_to c r s e))
 
 -- and the region is the image of the store that the step leaves
-pub step_image : (c : Call) (r r' : List ℕ) (s : Store) → decode r ≡ some s → r' ∷ [] ≡ (out_of (step c s) r).lent
+pub step_image : (c : Call) (r r' : List ℕ) (s : Store) → decode r ≡ Some s → r' ∷ [] ≡ (out_of (step c s) r).lent
     → r' ≡ image (leaves (step c s) s)
 unfolding out_of
 step_image c r r' s e f = only r' (region_after (step c s) r) f ∙ left_image (step c s) r s (sym (decoded r s e).1)
 
 -- one call more
-goes_on : (c : Call) (r a : List ℕ) (n : ℕ) (a' r' : List ℕ) (s : Store) → decode r ≡ some s → Reached s → Did (call c r a) n a' (r' ∷ [])
-    → (t : Store) × (decode r' ≡ some t) × Reached t
+goes_on : (c : Call) (r a : List ℕ) (n : ℕ) (a' r' : List ℕ) (s : Store) → decode r ≡ Some s → Reached s → Did (call c r a) n a' (r' ∷ [])
+    → (t : Store) × (decode r' ≡ Some t) × Reached t
 unfolding call out_of
 goes_on c r a n a' r' s e reached d = go (eqb (length a) 128) d.lent
   where
-    go : (b : Bool) → r' ∷ [] ≡ (chosen b (reply_to c r) r a).lent → (t : Store) × (decode r' ≡ some t) × Reached t
+    go : (b : Bool) → r' ∷ [] ≡ (chosen b (reply_to c r) r a).lent → (t : Store) × (decode r' ≡ Some t) × Reached t
     go false f = (s, ap decode (only r' r f) ∙ e, reached)
     go true f =
         reached_image r' (leaves (step c s) s) (after reached c)
@@ -148,22 +151,22 @@ goes_on c r a n a' r' s e reached d = go (eqb (length a) 128) d.lent
 
 abbrev start_reply : Bool → Option WriteReflog → Reply
 start_reply false o = refused BadRegion
-start_reply true none = refused Malformed
-start_reply true (some setting) = done (empty setting) nothing
+start_reply true None = refused Malformed
+start_reply true (Some setting) = done (empty setting) nothing
 
 start_replies : (k : ℕ) (r : List ℕ) → reply_to (start k) r ≡ start_reply (eqb (length r) region_size) (setting_of k)
 unfolding reply_to step started
 start_replies k r = go (eqb (length r) region_size)
   where
     known : (o : Option WriteReflog) → (or_refuse Malformed o >>= λ setting. done (empty setting) nothing) ≡ start_reply true o
-    known none = refl
-    known (some setting) = refl
+    known None = refl
+    known (Some setting) = refl
 
-    go : (b : Bool) → step_on (start k) (cond b (some (empty Disable)) none) ≡ start_reply b (setting_of k)
+    go : (b : Bool) → step_on (start k) (cond b (Some (empty Disable)) None) ≡ start_reply b (setting_of k)
     go false = refl
     go true = known (setting_of k)
 
-starts : (k : ℕ) (r a a' r' : List ℕ) → Did (call (start k) r a) 0 a' (r' ∷ []) → (t : Store) × (decode r' ≡ some t) × Reached t
+starts : (k : ℕ) (r a a' r' : List ℕ) → Did (call (start k) r a) 0 a' (r' ∷ []) → (t : Store) × (decode r' ≡ Some t) × Reached t
 unfolding call out_of answer_of refusal_answer
 starts k r a a' r' d = go (eqb (length a) 128) (eqb (length r) region_size) (setting_of k) code region
   where
@@ -174,11 +177,11 @@ starts k r a a' r' d = go (eqb (length a) 128) (eqb (length r) region_size) (set
     region = rw (← start_replies k r) d.lent
 
     go : (b sized : Bool) (o : Option WriteReflog) → 0 ≡ (chosen b (start_reply sized o) r a).code → r' ∷ [] ≡ (chosen b (start_reply sized o) r a).lent
-        → (t : Store) × (decode r' ≡ some t) × Reached t
+        → (t : Store) × (decode r' ≡ Some t) × Reached t
     go false sized o e f = absurd (omega arith)
     go true false o e f = absurd (omega arith)
-    go true true none e f = absurd (omega arith)
-    go true true (some setting) e f = reached_image r' (empty setting) (begun setting) (only r' (image (empty setting)) f)
+    go true true None e f = absurd (omega arith)
+    go true true (Some setting) e f = reached_image r' (empty setting) (begun setting) (only r' (image (empty setting)) f)
 
 -- ---- start with a record
 
@@ -189,14 +192,14 @@ unfolding reply_to_record step started
 record_replies P bytes r f g = go (eqb (length r) region_size) (read 2 bytes)
   where
     known : (o : Option WriteReflog) → P (or_refuse Malformed o >>= λ setting. done (empty setting) nothing)
-    known none = f Malformed
-    known (some setting) = g setting
+    known None = f Malformed
+    known (Some setting) = g setting
 
-    go : (b : Bool) (o : Outcome Settings) → P (start_from o (cond b (some (empty Disable)) none))
-    go false (refuse x) = f BadRegion
-    go false (pass settings) = f BadRegion
-    go true (refuse x) = f x
-    go true (pass settings) = known (setting_of settings.log)
+    go : (b : Bool) (o : Result Settings Refusal) → P (start_from o (cond b (Some (empty Disable)) None))
+    go false (Err x) = f BadRegion
+    go false (Ok settings) = f BadRegion
+    go true (Err x) = f x
+    go true (Ok settings) = known (setting_of settings.log)
 
 pub start_unchanged : StartUnchanged
 unfolding start_call out_of answer_of
@@ -246,7 +249,7 @@ refusal_number TextTooLong e = omega arith
 refusal_number ShortBuffer e = omega arith
 
 abbrev Held : List ℕ → Type 0
-Held r = (t : Store) × (decode r ≡ some t) × Reached t
+Held r = (t : Store) × (decode r ≡ Some t) × Reached t
 
 -- a region that held a reached store, or one that was started, holds one
 starts_with : (bytes r a : List ℕ) (n : ℕ) (a' r' : List ℕ) → Did (start_call bytes r a) n a' (r' ∷ []) → ((n ≡ 0 → ⊥) → Held r) → Held r'
@@ -285,15 +288,15 @@ closing_replies : (P : Reply → Type 0) (b : List ℕ) (mode : ℕ) (r : List �
 unfolding reply_to_closing closing reply_to step rows_prepared
 closing_replies P b mode r f g = go (is_receiver b)
   where
-    judged : (s : Store) (o : Outcome Prepared) → P (o >>= λ p. done (holds p s) (number (length p.rows)))
-    judged s (refuse x) = f x
-    judged s (pass p) = g (holds p s) (number (length p.rows))
+    judged : (s : Store) (o : Result Prepared Refusal) → P (o >>= λ p. done (holds p s) (number (length p.rows)))
+    judged s (Err x) = f x
+    judged s (Ok p) = g (holds p s) (number (length p.rows))
 
     called : (o : Option Store) → P (step_on (prepare (held b) mode) o)
-    called none = f BadRegion
-    called (some s) = judged s (rows_for (held b) mode s)
+    called None = f BadRegion
+    called (Some s) = judged s (rows_for (held b) mode s)
 
-    go : (t : Bool) → P (reply_or (cond t (pass (prepare (held b) mode)) (refuse BadRegion)) r)
+    go : (t : Bool) → P (reply_or (cond t (Ok (prepare (held b) mode)) (Err BadRegion)) r)
     go false = f BadRegion
     go true = called (decode r)
 
@@ -321,10 +324,10 @@ closes_on mode r b a n a' r' b' (s, e, reached) d = go (eqb (length a) 128) (clo
     still : (c : List ℕ) → r' ∷ b' ∷ [] ≡ r ∷ c ∷ [] → Held r'
     still c f = (s, ap decode (first r' r b' c f) ∙ e, reached)
 
-    go : (t : Bool) (o : Outcome Call) → r' ∷ b' ∷ [] ≡ (closed_by t (reply_or o r) r b a).lent → Held r'
+    go : (t : Bool) (o : Result Call Refusal) → r' ∷ b' ∷ [] ≡ (closed_by t (reply_or o r) r b a).lent → Held r'
     go false o f = still b f
-    go true (refuse x) f = still (closed b) f
-    go true (pass c) f =
+    go true (Err x) f = still (closed b) f
+    go true (Ok c) f =
         reached_image r' (leaves (step c s) s) (after reached c)
         (first r' (region_after (reply_to c r) r) b' (closed b) f
         ∙ ap (λ (reply : Reply). region_after reply r) (replies_to c r s e)
@@ -343,17 +346,17 @@ written_by t reply r b a = cond t (beside (out_of reply r) (buffer_after reply b
 
 -- it comes to a refusal, or to the text of the store that is there
 writing_replies : (P : Reply → Type 0) (b r : List ℕ) → ((x : Refusal) → P (refused x))
-    → ((s : Store) → decode r ≡ some s → P (done s (written (packed_text s)))) → P (reply_to_writing b r)
+    → ((s : Store) → decode r ≡ Some s → P (done s (written (packed_text s)))) → P (reply_to_writing b r)
 unfolding reply_to_writing reply_to step text_written
 writing_replies P b r f g = go (decode r) refl
   where
-    wrote : (s : Store) → decode r ≡ some s → (t : Bool) → P (refuse_if t TextTooLong >> done s (written (packed_text s)))
+    wrote : (s : Store) → decode r ≡ Some s → (t : Bool) → P (refuse_if t TextTooLong >> done s (written (packed_text s)))
     wrote s e true = f TextTooLong
     wrote s e false = g s e
 
     go : (o : Option Store) → decode r ≡ o → P (step_on (write_packed (length b)) o)
-    go none e = f BadRegion
-    go (some s) e = wrote s e (ltb (length b) (length (packed_text s)))
+    go None e = f BadRegion
+    go (Some s) e = wrote s e (ltb (length b) (length (packed_text s)))
 
 -- the region stays
 pub writing_region : (b r : List ℕ) → region_after (reply_to_writing b r) r ≡ r
@@ -372,7 +375,7 @@ write_unchanged r b a n a' r' b' d =
     same false x e f = (first r' r b' b f, λ h. second r' r b' b f)
     same true x e f = (first r' r b' b f, λ h. second r' r b' b f)
 
-    new : (t : Bool) (s : Store) → decode r ≡ some s → Stays t (done s (written (packed_text s)))
+    new : (t : Bool) (s : Store) → decode r ≡ Some s → Stays t (done s (written (packed_text s)))
     new false s q e f = (first r' r b' b f, λ h. second r' r b' b f)
     new true s q e f = (first r' (image s) b' _ f ∙ (decoded r s q).1, λ h. absurd (h e))
 

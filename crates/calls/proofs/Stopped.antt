@@ -1,11 +1,11 @@
 -- What a commit leaves of a region with a transaction prepared: the image of the model's stop, and what names read there. Assumes nothing.
+use Rattle.std.specs.Prelude.{Option, Some}
+use Rattle.target.specs.declared.Target.{Target}
 use mathlib.Core.Path.{◌≡◌, sym, ap, ◌∙◌, subst}
 use mathlib.Core.List.{List, [], ◌∷◌}
-use mathlib.Core.Option.{some}
 use Prim.Native.Nat.{ℕ, ◌<◌}
 use lib.ListN.{length}
 use Rattle.target.specs.declared.NameNumber.{NameNumber}
-use Rattle.target.specs.declared.OptionTarget.{OptionTarget}
 use Rattle.model.specs.Store.{Store, count}
 use Rattle.model.specs.Read.{reading}
 use Rattle.model.specs.Rows.{name_in}
@@ -30,20 +30,20 @@ use Rattle.calls.proofs.Answered.{reads_to, reads_as}
 use Rattle.calls.proofs.Ended.{stop_count}
 
 -- what is got holds the store that is seen in it, and that is reached
-got_seen : (r : List ℕ) → Got r → (decode r ≡ some (view r)) × Reached (view r)
-got_seen r g = (h.1 ∙ ap some (sym seen), subst Reached (sym seen) h.2)
+got_seen : (r : List ℕ) → Got r → (decode r ≡ Some (view r)) × Reached (view r)
+got_seen r g = (h.1 ∙ ap Some (sym seen), subst Reached (sym seen) h.2)
   where
-    h : (s : Store) × (decode r ≡ some s) × Reached s
+    h : (s : Store) × (decode r ≡ Some s) × Reached s
     h = got_reached r g
 
     seen : view r ≡ h.0
     seen = ap view (sym (decoded r h.0 h.1).1) ∙ view_image h.0 (fine_fits h.0 (decoded r h.0 h.1).0)
 
 module _ {c k : ℕ} {r : List ℕ} {n : ℕ} {a r' : List ℕ} (x : Committed c k r n a r') where
-  pub before : (decode r ≡ some (view r)) × Reached (view r)
+  pub before : (decode r ≡ Some (view r)) × Reached (view r)
   before = got_seen r x.got
 
-  pub after : (decode r' ≡ some (view r')) × Reached (view r')
+  pub after : (decode r' ≡ Some (view r')) × Reached (view r')
   after = got_seen r' (got·after x.got (commit c k) n x.lent a r' x.did)
 
   pub ruled : Fine (view r)
@@ -60,19 +60,19 @@ module _ {c k : ℕ} {r : List ℕ} {n : ℕ} {a r' : List ℕ} (x : Committed c
       ∙ view_image (stop_at c k (view r)) (fine_fits (stop_at c k (view r)) (kept (view r) ruled (commit c k)))
 
   -- so a name reads as it does there
-  pub stop_reads : (m : NameNumber) → m.0 < count (view r) → (t : OptionTarget)
+  pub stop_reads : (m : NameNumber) → m.0 < count (view r) → (t : Option Target)
       → value_bytes (reading (stop_at c k (view r)) m) ≡ value_bytes t → Reads m.0 r' t
   stop_reads m h t e =
       reads_to r' after.0 m (rw (left_by, stop_count (view r) x.prepared c k) h) t
       (ap (λ (s : Store). value_bytes (reading s m)) left_by ∙ e)
 
   -- and so does a row's name
-  pub row_reads : {t : OptionTarget} (i : ℕ) → i < length (prepared_rows r) → reading (stop_at c k (view r)) (name_in (prepared_row r i)) ≡ t
+  pub row_reads : {t : (Option Target)} (i : ℕ) → i < length (prepared_rows r) → reading (stop_at c k (view r)) (name_in (prepared_row r i)) ≡ t
       → Reads (name_in (prepared_row r i)).0 r' t
   row_reads {t} i h e =
       stop_reads (name_in (prepared_row r i)) (held (view r) ruled i h) t (ap value_bytes e)
 
-  pub row_reading : {t : OptionTarget} (i : ℕ) → FitsOption t → Reads (name_in (prepared_row r i)).0 r' t
+  pub row_reading : {t : (Option Target)} (i : ℕ) → FitsOption t → Reads (name_in (prepared_row r i)).0 r' t
       → reading (stop_at c k (view r)) (name_in (prepared_row r i)) ≡ t
   row_reading {t} i f reads =
       ap (λ (s : Store). reading s (name_in (prepared_row r i))) (sym left_by)

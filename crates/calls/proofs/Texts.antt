@@ -1,8 +1,8 @@
 -- What specs/Exports.antt states of the packed table's text in a caller's hands, proved. Assumes nothing.
+use Rattle.std.specs.Prelude.{Some}
 use mathlib.Core.Path.{◌≡◌, refl, sym, ap, subst, ◌∙◌}
 use mathlib.Core.Bool.{false}
 use mathlib.Core.List.{List, [], ◌∷◌, ◌++◌}
-use mathlib.Core.Option.{some}
 use Prim.Native.Nat.{ℕ, ◌≤◌, ◌<◌}
 use native.Mathlib.Omega.{arith}
 use lib.ListN.{length, take, drop}
@@ -41,14 +41,14 @@ module _ (s : Store) (b : List ℕ) where
   text_short h = rw (lt-ltb (length b) (length (packed_text s)) h)
 
 -- with a record of 128 bytes it comes to this
-written_as : (r b a : List ℕ) (s : Store) (reply : Reply) → decode r ≡ some s → length a ≡ 128 → step (write_packed (length b)) s ≡ reply
+written_as : (r b a : List ℕ) (s : Store) (reply : Reply) → decode r ≡ Some s → length a ≡ 128 → step (write_packed (length b)) s ≡ reply
     → write_call r b a ≡ beside (out_of reply r) (buffer_after reply b)
 unfolding write_call reply_to_writing
 written_as r b a s reply e l q =
     rw (eq-eqb (length a) 128 l)
     (ap (λ (x : Reply). beside (out_of x r) (buffer_after x b)) (replies_to (write_packed (length b)) r s e ∙ q))
 
-module _ (r b a : List ℕ) (s : Store) (n : ℕ) (a' r' b' : List ℕ) (e : decode r ≡ some s) (l : length a ≡ 128) (d : Did (write_call r b a) n a' (r' ∷ b' ∷ [])) where
+module _ (r b a : List ℕ) (s : Store) (n : ℕ) (a' r' b' : List ℕ) (e : decode r ≡ Some s) (l : length a ≡ 128) (d : Did (write_call r b a) n a' (r' ∷ b' ∷ [])) where
   comes : (reply : Reply) → step (write_packed (length b)) s ≡ reply → Did (beside (out_of reply r) (buffer_after reply b)) n a' (r' ∷ b' ∷ [])
   comes reply q = subst (λ (o : Out). Did o n a' (r' ∷ b' ∷ [])) (written_as r b a s reply e l q) d
 
@@ -83,9 +83,9 @@ pub record Does (c : Call) (s : Store) (r' : List ℕ) : Type 0 where
   pub store : Store
   pub given : Given
   pub steps : step c s ≡ done store given
-  pub holds : decode r' ≡ some store
+  pub holds : decode r' ≡ Some store
 
-does : (c : Call) (r a : List ℕ) (s : Store) (a' r' : List ℕ) → decode r ≡ some s → length a ≡ 128 → Did (call c r a) 0 a' (r' ∷ [])
+does : (c : Call) (r a : List ℕ) (s : Store) (a' r' : List ℕ) → decode r ≡ Some s → length a ≡ 128 → Did (call c r a) 0 a' (r' ∷ [])
     → Does c s r'
 does c r a s a' r' e l d =
     let o : call c r a ≡ out_of (step c s) r = does_step c r a s e l in
@@ -97,7 +97,7 @@ does c r a s a' r' e l d =
       store = x.0;
       given = x.1.0;
       steps = x.1.1;
-      holds = ap decode i ∙ decode_image (leaves (step c s) s) f ∙ ap some u;
+      holds = ap decode i ∙ decode_image (leaves (step c s) s) f ∙ ap Some u;
     }
 
 pub reads_text : ReadsText
@@ -108,7 +108,7 @@ reads_text r a s a' r' t e h l d =
 -- ---- there and back
 
 -- the text of the store that is there is taken, and leaves the region
-taken : (r c : List ℕ) (s : Store) (m : ℕ) (c₁ r₂ : List ℕ) → Got r → decode r ≡ some s → is_prepared s.prepared ≡ false → length c ≡ 128
+taken : (r c : List ℕ) (s : Store) (m : ℕ) (c₁ r₂ : List ℕ) → Got r → decode r ≡ Some s → is_prepared s.prepared ≡ false → length c ≡ 128
     → Did (call (read_packed (packed_text s)) r c) m c₁ (r₂ ∷ [])
     → (m ≡ 0) × (r₂ ≡ r)
 unfolding out_of answer_of

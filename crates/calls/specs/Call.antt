@@ -1,6 +1,6 @@
 -- What every call does with a region and an answer record, by what the model's step does to a store: one shape for all calls.
-use Rattle.std.specs.Prelude.{◌≡◌, Bool, true, false, cond, List, [], ◌∷◌, ◌++◌, ℕ, length, get_or, drop, eqb}
-use Rattle.std.proofs.Math.Option.{Option, none, some}
+use Rattle.model.specs.declared.Refusal.{Refusal}
+use Rattle.std.specs.Prelude.{◌≡◌, Bool, true, false, cond, List, [], ◌∷◌, ◌++◌, ℕ, length, get_or, drop, eqb, Option, Some, None, Result, Ok, Err}
 use Rattle.word.specs.Be.{cut}
 use Rattle.model.specs.declared.Refusal.TheVariants.{BadRegion}
 use Rattle.model.specs.declared.WriteReflog.{WriteReflog}
@@ -11,23 +11,19 @@ use Rattle.model.specs.Reply.Call.{start, add_name, name_bytes, load_loose, load
 use Rattle.model.specs.Reply.Reply.{done, stopped, refused}
 use Rattle.model.specs.Reply.Given.{nothing, number, bytes_of, value, line, row, written}
 use Rattle.model.specs.Calls.{step}
-use Rattle.model.specs.Outcome.{Outcome}
-use Rattle.model.specs.Outcome.Outcome.{refuse, pass}
 use Rattle.model.specs.Numbers.{Answer, answer_of}
 use Rattle.settings.specs.Format.{Settings, read}
 use Rattle.receiver.specs.Receiver.{closing, closed}
 use Rattle.region.specs.Layout.{region_size}
 use Rattle.region.specs.Region.{image, decode, name_offset}
 use Rattle.answers.specs.declared.Verdict.{Verdict}
-use Rattle.answers.specs.Answers.{record_of, answer_by}
-use Rattle.calls.specs.declared.OptionSetting.{OptionSetting}
-use Rattle.calls.specs.declared.OptionSetting.TheVariants.{NoSetting, Setting}
+use Rattle.answers.specs.Answers.{record_of, answered}
 
 -- ---- a call on a region
 
 -- start takes the region's bytes for nothing, and looks at its size alone
 abbrev pub sized : List ℕ → Option Store
-sized r = cond (eqb (length r) region_size) (some (empty Disable)) none
+sized r = cond (eqb (length r) region_size) (Some (empty Disable)) None
 
 abbrev pub is_start : Call → Bool
 is_start (start k) = true
@@ -52,18 +48,18 @@ found c r = cond (is_start c) (sized r) (decode r)
 
 -- 1: a region that holds no store
 abbrev pub step_on : Call → Option Store → Reply
-step_on c none = refused BadRegion
-step_on c (some s) = step c s
+step_on c None = refused BadRegion
+step_on c (Some s) = step c s
 
 unfoldable pub reply_to : Call → List ℕ → Reply
 reply_to c r = step_on c (found c r)
 
 -- ---- start with a settings record in place of a bare setting: 1, then the record's own refusals, then as start with its log setting
 
-abbrev pub start_from : Outcome Settings → Option Store → Reply
-start_from o none = refused BadRegion
-start_from (refuse x) (some s) = refused x
-start_from (pass settings) (some s) = step (start settings.log) s
+abbrev pub start_from : Result Settings Refusal → Option Store → Reply
+start_from o None = refused BadRegion
+start_from (Err x) (Some s) = refused x
+start_from (Ok settings) (Some s) = step (start settings.log) s
 
 -- versions 1 and 2 are read
 unfoldable pub reply_to_record : List ℕ → List ℕ → Reply
@@ -71,9 +67,9 @@ reply_to_record bytes r = start_from (read 2 bytes) (sized r)
 
 -- ---- closing a receiver: 1 where it is not good, then as prepare with what it holds
 
-abbrev pub reply_or : Outcome Call → List ℕ → Reply
-reply_or (refuse x) r = refused x
-reply_or (pass c) r = reply_to c r
+abbrev pub reply_or : Result Call Refusal → List ℕ → Reply
+reply_or (Err x) r = refused x
+reply_or (Ok c) r = reply_to c r
 
 unfoldable pub reply_to_closing : List ℕ → ℕ → List ℕ → Reply
 reply_to_closing b mode r = reply_or (closing b mode) r
@@ -171,24 +167,24 @@ pub record Did (o : Out) (n : ℕ) (a : List ℕ) (buffers : List (List ℕ)) : 
 -- ---- below the exports
 
 -- the contract of the function on plain values below each exported call on a region
-pub record Replied (v : Verdict) (r r' : List ℕ) (reply : Reply) : Type 0 where
-  pub answer : answer_by v ≡ answer_of name_offset reply
+pub record Replied (v : Result Verdict Refusal) (r r' : List ℕ) (reply : Reply) : Type 0 where
+  pub answer : answered v ≡ answer_of name_offset reply
   pub region : r' ≡ region_after reply r
 
 -- and below closing, with the receiver too
-pub record Closed (v : Verdict) (r r' b b' : List ℕ) (mode : ℕ) : Type 0 where
-  pub answer : answer_by v ≡ answer_of name_offset (reply_to_closing b mode r)
+pub record Closed (v : Result Verdict Refusal) (r r' b b' : List ℕ) (mode : ℕ) : Type 0 where
+  pub answer : answered v ≡ answer_of name_offset (reply_to_closing b mode r)
   pub region : r' ≡ region_after (reply_to_closing b mode r) r
   pub receiver : b' ≡ closed b
 
 -- and below writing the packed table's text, which leaves the region
-pub record Wrote (v : Verdict) (r b b' : List ℕ) : Type 0 where
-  pub answer : answer_by v ≡ answer_of name_offset (reply_to_writing b r)
+pub record Wrote (v : Result Verdict Refusal) (r b b' : List ℕ) : Type 0 where
+  pub answer : answered v ≡ answer_of name_offset (reply_to_writing b r)
   pub buffer : b' ≡ buffer_after (reply_to_writing b r) b
 
 -- and below each of those on another buffer
-pub record Keeps (v : Verdict) (b' : List ℕ) (k : Kept) : Type 0 where
-  pub answer : answer_by v ≡ k.answer
+pub record Keeps (v : Result Verdict Refusal) (b' : List ℕ) (k : Kept) : Type 0 where
+  pub answer : answered v ≡ k.answer
   pub buffer : b' ≡ k.buffer
 
 -- ---- the bytes of a name, handed back as a part of the region: what stands at the offset and length that name_bytes answers. A
@@ -201,7 +197,3 @@ unfoldable pub name_part : ℕ → List ℕ → List ℕ
 name_part n r = stretch (answer_of name_offset (reply_to (name_bytes n) r)).places r
 
 -- ---- start's number
-
-abbrev pub setting_option : OptionSetting → Option WriteReflog
-setting_option NoSetting = none
-setting_option (Setting s) = some s

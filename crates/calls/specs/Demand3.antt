@@ -1,10 +1,8 @@
 -- Demand 3 over bytes, sentence by sentence: of every region that is got from any bytes by a start and any calls, with a
 -- transaction prepared, and of every result that keeps commit's contract there. The proofs stand in proofs/Demand3.antt.
-use Rattle.std.specs.Prelude.{◌≡◌, true, false, ◌&&◌, cond, List, [], ◌∷◌, ◌⊎◌, ℕ, ◌≤◌, ◌<◌, min, length, take, ltb, leb}
-use Rattle.std.proofs.Math.Option.{none, some}
+use Rattle.target.specs.declared.Target.{Target}
+use Rattle.std.specs.Prelude.{◌≡◌, true, false, ◌&&◌, cond, List, [], ◌∷◌, ◌⊎◌, ℕ, ◌≤◌, ◌<◌, min, length, take, ltb, leb, Option, Some, None}
 use Rattle.target.specs.declared.NameNumber.{NameNumber}
-use Rattle.target.specs.declared.OptionTarget.{OptionTarget}
-use Rattle.target.specs.declared.OptionTarget.TheVariants.{Absent}
 use Rattle.transaction.specs.declared.Edit.{Edit}
 use Rattle.transaction.specs.Change.{is_delete}
 use Rattle.transaction.specs.Fields.{packed_refs_number}
@@ -36,11 +34,11 @@ abbrev pub filled : List ℕ → List ℕ
 filled places = record_of (answer 0 places).places
 
 -- the bytes of a value in a record: its two places
-abbrev pub value_bytes : OptionTarget → List ℕ
+abbrev pub value_bytes : Option Target → List ℕ
 value_bytes t = record_of (option_places t)
 
 -- a read of name n in the region r answers the value t, which is the first two places; where it was found stands behind them
-pub record Reads (n : ℕ) (r : List ℕ) (t : OptionTarget) : Type 0 where
+pub record Reads (n : ℕ) (r : List ℕ) (t : Option Target) : Type 0 where
   pub read : (lent : List ℕ) (m : ℕ) (a r' : List ℕ) → length lent ≡ 128 → Did (call (read_name n) r lent) m a (r' ∷ [])
       → (m ≡ 0) × (take 16 a ≡ value_bytes t) × (r' ≡ r)
 
@@ -63,14 +61,14 @@ number_at c k s =
 -- all where there are fewer; the setting as it was, nothing prepared and our locks free, other locks as they were. The record's
 -- first place has the count of the writes made, and the number says why there are no more.
 pub record StoppedRegion (c k : ℕ) (r : List ℕ) (n : ℕ) (a r' : List ℕ) : Type 0 where
-  pub before : decode r ≡ some (view r)
-  pub after : decode r' ≡ some (view r')
+  pub before : decode r ≡ Some (view r)
+  pub after : decode r' ≡ Some (view r')
   pub number : n ≡ number_at c k (view r)
   pub count : a ≡ filled (min k (length (commit_writes c (view r))) ∷ [])
   pub refs : refs (view r') ≡ refs (apply_all (take k (commit_writes c (view r))) (view r))
   pub logs : (view r').lines ≡ (apply_all (take k (commit_writes c (view r))) (view r)).lines
   pub setting : (view r').setting ≡ (view r).setting
-  pub gone : (view r').prepared ≡ none
+  pub gone : (view r').prepared ≡ None
   pub free : (n : ℕ) → is_lock Ours (entry_at (view r') n).lock ≡ false
   pub packed_free : is_lock Ours (view r').packed_lock ≡ false
   pub foreign : (n : ℕ) → is_lock Foreign (entry_at (view r') n).lock ≡ is_lock Foreign (entry_at (view r) n).lock
@@ -86,7 +84,7 @@ abbrev pub RegionB : Type 0
 RegionB =
     (c k : ℕ) (r : List ℕ) (n : ℕ) (a r' : List ℕ) → Committed c k r n a r'
     → (m : NameNumber) → ((i : ℕ) → i < length (prepared_rows r) → name_in (prepared_row r i) ≡ m → ⊥)
-    → (t : OptionTarget) → Reads m.0 r t → Reads m.0 r' t
+    → (t : Option Target) → Reads m.0 r t → Reads m.0 r' t
 
 -- ---- c
 
@@ -118,7 +116,7 @@ abbrev pub RegionD : Type 0
 RegionD =
     (c k : ℕ) (r : List ℕ) (n : ℕ) (a r' : List ℕ) → Committed c k r n a r'
     → (i : ℕ) → i < length (prepared_rows r) → Deletes (view r) (prepared_row r i)
-    → Reads (name_in (prepared_row r i)).0 r' Absent
+    → Reads (name_in (prepared_row r i)).0 r' None
     → lines_of (view r') (name_in (prepared_row r i)) ≡ []
 
 -- ---- e
@@ -128,7 +126,7 @@ abbrev pub RegionE : Type 0
 RegionE =
     (c k : ℕ) (r : List ℕ) (n : ℕ) (a r' : List ℕ) → Committed c k r n a r' → packed_refs_number (mode_in (view r).prepared) ≤ 2
     → (i j : ℕ) → i < length (prepared_rows r) → j < length (prepared_rows r) → Deletes (view r) (prepared_row r i)
-    → Reads (name_in (prepared_row r i)).0 r' Absent
+    → Reads (name_in (prepared_row r i)).0 r' None
     → is_delete (change_in (prepared_row r j)) ≡ false
     → Reads (name_in (prepared_row r j)).0 r' (new (view r) (prepared_row r j))
 

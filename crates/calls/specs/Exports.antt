@@ -1,8 +1,8 @@
 -- What is proved of every call that keeps the contract `Did (call c r a)`, whatever the call, of start with a settings record, of closing a
 -- receiver and of writing the packed table's text. Every exported call on a region has one of the four. The proofs stand in proofs/Exports.antt,
 -- those of texts in proofs/Texts.antt.
-use Rattle.std.specs.Prelude.{◌≡◌, true, false, List, [], ◌∷◌, ℕ, ◌≤◌, ◌<◌, length, take, drop}
-use Rattle.std.proofs.Math.Option.{some}
+use Rattle.std.specs.Prelude.{◌≡◌, true, false, List, [], ◌∷◌, ℕ, ◌≤◌, ◌<◌, length, take, drop, Some, Result}
+use Rattle.model.specs.declared.Refusal.{Refusal}
 use Rattle.model.specs.Store.{Store, is_prepared}
 use Rattle.model.specs.Reply.{Call, Reply}
 use Rattle.model.specs.Reply.Call.{start, place_lock, lift_lock, read_packed}
@@ -12,6 +12,7 @@ use Rattle.model.specs.Reached.{Reached}
 use Rattle.model.specs.Locks.{placing, lifting, did_before}
 use Rattle.region.specs.Region.{decode}
 use Rattle.answers.specs.declared.Verdict.{Verdict}
+use Rattle.answers.specs.Answers.{verdict_of}
 use Rattle.calls.specs.Call.{Out, out_of, call, start_call, close_call, write_call, Kept, Wrote, Did, Replied, Keeps, name_part}
 
 -- ---- determined: two results that satisfy the contract of an exported call are equal, whatever it says is to come out
@@ -23,20 +24,21 @@ Determined =
     → Did o n' a₂ lent₂
     → (n ≡ n') × (a₁ ≡ a₂) × (lent₁ ≡ lent₂)
 
--- so are two results of the functions below the exports
+-- so are the verdicts of two results of the functions below the exports
 abbrev pub BelowDetermined : Type 0
 BelowDetermined =
-    (reply : Reply) (r : List ℕ) (v v' : Verdict) (r₁ r₂ : List ℕ)
+    (reply : Reply) (r : List ℕ) (v v' : Result Verdict Refusal) (r₁ r₂ : List ℕ)
     → Replied v r r₁ reply
     → Replied v' r r₂ reply
-    → (v ≡ v') × (r₁ ≡ r₂)
+    → (verdict_of v ≡ verdict_of v') × (r₁ ≡ r₂)
 
 abbrev pub WroteDetermined : Type 0
-WroteDetermined = (r b : List ℕ) (v v' : Verdict) (b₁ b₂ : List ℕ) → Wrote v r b b₁ → Wrote v' r b b₂ → (v ≡ v') × (b₁ ≡ b₂)
+WroteDetermined =
+    (r b : List ℕ) (v v' : Result Verdict Refusal) (b₁ b₂ : List ℕ) → Wrote v r b b₁ → Wrote v' r b b₂ → (verdict_of v ≡ verdict_of v') × (b₁ ≡ b₂)
 
 abbrev pub KeepsDetermined : Type 0
 KeepsDetermined =
-    (k : Kept) (v v' : Verdict) (b₁ b₂ : List ℕ) → Keeps v b₁ k → Keeps v' b₂ k → (v ≡ v') × (b₁ ≡ b₂)
+    (k : Kept) (v v' : Result Verdict Refusal) (b₁ b₂ : List ℕ) → Keeps v b₁ k → Keeps v' b₂ k → (verdict_of v ≡ verdict_of v') × (b₁ ≡ b₂)
 
 -- the contract of the function that returns the part of a name
 abbrev pub PartDetermined : Type 0
@@ -88,14 +90,14 @@ pub data Got : List ℕ → Type 0 where
 
 -- decodes to a reached store
 abbrev pub GotReached : Type 0
-GotReached = (r : List ℕ) → Got r → (s : Store) × (decode r ≡ some s) × Reached s
+GotReached = (r : List ℕ) → Got r → (s : Store) × (decode r ≡ Some s) × Reached s
 
 -- ---- 2026-07: of a good region the text stands at the buffer's beginning, and all past it is as it was. Where it does not fit, it is 32
 
 abbrev pub WritesText : Type 0
 WritesText =
     (r b a : List ℕ) (s : Store) (n : ℕ) (a' r' b' : List ℕ)
-    → decode r ≡ some s
+    → decode r ≡ Some s
     → length a ≡ 128
     → Did (write_call r b a) n a' (r' ∷ b' ∷ [])
     → (length (packed_text s) ≤ length b
@@ -106,18 +108,18 @@ WritesText =
 abbrev pub ReadsText : Type 0
 ReadsText =
     (r a : List ℕ) (s : Store) (a' r' : List ℕ) (t : Store)
-    → decode r ≡ some s
+    → decode r ≡ Some s
     → Reached t
     → length a ≡ 128
     → Did (call (read_packed (packed_text t)) r a) 0 a' (r' ∷ [])
-    → (u : Store) × (decode r' ≡ some u) × (packed_table u ≡ packed_table t)
+    → (u : Store) × (decode r' ≡ Some u) × (packed_table u ≡ packed_table t)
 
 -- a backup and its return: what was written into a buffer, read into its region again with nothing prepared, is taken, and no byte changes
 abbrev pub WrittenThenRead : Type 0
 WrittenThenRead =
     (r b a c : List ℕ) (s : Store) (n : ℕ) (a₁ r₁ b₁ : List ℕ) (m : ℕ) (c₁ r₂ : List ℕ)
     → Got r
-    → decode r ≡ some s
+    → decode r ≡ Some s
     → is_prepared s.prepared ≡ false
     → length a ≡ 128
     → length c ≡ 128
@@ -131,7 +133,7 @@ abbrev pub ReadThenWritten : Type 0
 ReadThenWritten =
     (t r b a c : List ℕ) (s : Store) (a₁ r₁ : List ℕ) (n : ℕ) (c₁ r₂ b₁ : List ℕ)
     → plain t ≡ true
-    → decode r ≡ some s
+    → decode r ≡ Some s
     → length a ≡ 128
     → length c ≡ 128
     → Did (call (read_packed t) r a) 0 a₁ (r₁ ∷ [])
@@ -144,7 +146,7 @@ ReadThenWritten =
 abbrev pub LocksAsBefore : Type 0
 LocksAsBefore =
     (kind n : ℕ) (r a : List ℕ) (s : Store)
-    → decode r ≡ some s
+    → decode r ≡ Some s
     → length a ≡ 128
     → (call (place_lock kind n) r a ≡ out_of (did_before (placing kind n) s) r)
     × (call (lift_lock kind n) r a ≡ out_of (did_before (lifting kind n) s) r)

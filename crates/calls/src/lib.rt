@@ -3,74 +3,51 @@
 #![tactic(auto)]
 
 ghost use Rattle.std.specs.Prelude.{◌≡◌};
-ghost use Rattle.model.specs.Load.{setting_of};
 ghost use Rattle.model.specs.Reply.Call.{start, rollback};
-ghost use Rattle.calls.specs.Call.{reply_to, reply_to_record, Replied, setting_option};
+ghost use Rattle.calls.specs.Call.{reply_to, reply_to_record, Replied};
 
 use answers::{Answer, Verdict};
-use model::WriteReflog;
-use reader::Reading;
+use model::{Refusal, WriteReflog};
 use region::Layout;
 use settings::Record;
 
 // ---- start
 
-#[derive(Clone, Copy)]
-pub enum OptionSetting {
-    NoSetting,
-    Setting(WriteReflog),
-}
-
-fn setting_of(number: u64) -> OptionSetting
-    ensures { setting_option result ≡ setting_of number }
-{
-    match number {
-        WriteReflog::DISABLE => OptionSetting::Setting(WriteReflog::Disable),
-        WriteReflog::NORMAL => OptionSetting::Setting(WriteReflog::Normal),
-        WriteReflog::ALWAYS => OptionSetting::Setting(WriteReflog::Always),
-        _ => OptionSetting::NoSetting,
-    }
-}
-
 // An empty store, whatever the region held.
-pub fn start_with(region: &mut [u8], setting: u64) -> Verdict
+pub fn start_with(region: &mut [u8], setting: u64) -> Result<Verdict, Refusal>
     ensures { Replied result region.old region.new (reply_to (start setting) region.old) }
 {
     if region.len() != Layout::SIZE {
-        return Verdict::bare(Answer::BAD_REGION);
+        return Err(Refusal::BadRegion);
     }
-    let OptionSetting::Setting(s) = setting_of(setting) else {
-        return Verdict::bare(Answer::MALFORMED);
-    };
-    writers::make_empty(region, s);
-    Verdict::bare(Answer::DONE)
+    let log = WriteReflog::try_from(setting)
+        .ok()
+        .ok_or(Refusal::Malformed)?;
+    writers::make_empty(region, log);
+    Ok(Verdict::done(&[]))
 }
 
 // The same with the log setting of a settings record.
-pub fn start_with_settings(region: &mut [u8], bytes: &[u8]) -> Verdict
+pub fn start_with_settings(region: &mut [u8], bytes: &[u8]) -> Result<Verdict, Refusal>
     ensures { Replied result region.old region.new (reply_to_record bytes.now region.old) }
 {
     if region.len() != Layout::SIZE {
-        return Verdict::bare(Answer::BAD_REGION);
+        return Err(Refusal::BadRegion);
     }
-    let reading = reader::read(bytes, Record::VERSION_2);
-    match reading {
-        Reading::Unknown => Verdict::bare(Answer::UNKNOWN_VERSION),
-        Reading::Malformed => Verdict::bare(Answer::MALFORMED_RECORD),
-        Reading::Read(summary) => start_with(region, summary.log),
-    }
+    let summary = reader::read(bytes, Record::VERSION_2)?;
+    start_with(region, summary.log)
 }
 
 // ---- rollback
 
 // The transaction is forgotten, and its locks are free: how many rows it had.
-pub fn roll_back(region: &mut [u8]) -> Verdict
+pub fn roll_back(region: &mut [u8]) -> Result<Verdict, Refusal>
     ensures { Replied result region.old region.new (reply_to rollback region.old) }
 {
     if !good::is_good(region) {
-        return Verdict::bare(Answer::BAD_REGION);
+        return Err(Refusal::BadRegion);
     }
     let rows = region::count_rows(region);
     steps::release(region);
-    Verdict::one(Answer::DONE, rows as u64)
+    Ok(Verdict::done(&[rows as u64]))
 }

@@ -1,9 +1,9 @@
 -- The loop over the places: two turns a place; what is left of the list, by the store as it is, comes to the same run. Assumes
 -- nothing.
+use Rattle.std.specs.Prelude.{Option, Some, None}
 use mathlib.Core.Path.{◌≡◌, refl, sym, ap, ap₂, ◌∙◌, subst}
 use mathlib.Core.Bool.{Bool}
 use mathlib.Core.List.{List, [], ◌∷◌, ◌++◌}
-use mathlib.Core.Option.{Option}
 use Prim.Native.Nat.{ℕ, suc, ◌+◌, ◌*◌, ◌-◌, ◌≤◌, ◌<◌}
 use native.Mathlib.Omega.{arith}
 use native.Mathlib.Numerals.{add-one}
@@ -27,7 +27,7 @@ use Rattle.writes.proofs.Named.{fine_named, told_first, told_later}
 use Rattle.writes.proofs.Steps.{first_stays, second_stays}
 use Rattle.writes.proofs.Whole.{whole}
 use Rattle.committing.specs.declared.Halt.{Halt}
-use Rattle.committing.specs.declared.Halt.TheVariants.{GoesOn, NoCommitter, UsedUp}
+use Rattle.committing.specs.declared.Halt.TheVariants.{NoCommitter, UsedUp}
 use Rattle.committing.specs.declared.Ran.{Ran}
 use Rattle.committing.specs.Running.{stop_of, rest, Turned, Placed, RanOut}
 use Rattle.committing.proofs.Turned.{named_as, apart_as, either, turned_rows, turned_count}
@@ -116,11 +116,11 @@ unfolding ahead
 ahead_none stamp s k m e = ap (ahead stamp s k) e
 
 -- no write is left
-nothing_left : (stamp : Stamp) (a : Ran) (stop : Halt) (s : Store) → a.stop ≡ stop → record { store = s; made = a.made; stop = stop_of a.stop } ≡ rest stamp a [] s
+nothing_left : (stamp : Stamp) (a : Ran) (stop : Option Halt) (s : Store) → a.stop ≡ stop → record { store = s; made = a.made; stop = stop_of a.stop } ≡ rest stamp a [] s
 unfolding rest run
-nothing_left stamp a GoesOn s e = rw e refl
-nothing_left stamp a NoCommitter s e = rw e refl
-nothing_left stamp a UsedUp s e = rw e refl
+nothing_left stamp a None s e = rw e refl
+nothing_left stamp a (Some NoCommitter) s e = rw e refl
+nothing_left stamp a (Some UsedUp) s e = rw e refl
 
 module _ (c : ℕ) (z : Run) (r₀ : List ℕ) (flags : List Bool) (p k : ℕ) (at : Ran) (r : List ℕ) (f : Fine (view r₀)) where
   module _ (h : Before c z r₀ flags p k at r) where
@@ -214,7 +214,7 @@ place_done c z r₀ flags p k at b r r' f h l t e =
 
 -- every place is ahead
 pub before_start : (c allowance n : ℕ) (r : List ℕ) (flags : List Bool) → Laid r → Fine (view r) → Flags (lined (view r)) flags → c ≤ 65535
-    → n ≡ length (rows_of (view r)) → Before c (committing (by c) allowance (view r)) r flags (n * 3 + 1) 0 (record { left = allowance; made = 0; stop = GoesOn }) r
+    → n ≡ length (rows_of (view r)) → Before c (committing (by c) allowance (view r)) r flags (n * 3 + 1) 0 (record { left = allowance; made = 0; stop = None }) r
 unfolding rest committing
 before_start c allowance n r flags l f up small en =
     let e : n * 3 + 1 - 0 ≡ places (view r) = omega arith in

@@ -1,5 +1,6 @@
 -- Each write, made; and what it needs. Assumes nothing.
-use mathlib.Core.Path.{◌≡◌, refl, subst}
+use Rattle.std.specs.Prelude.{Option, Some, None}
+use mathlib.Core.Path.{◌≡◌, refl, ap, ◌∙◌, subst}
 use mathlib.Core.Bool.{not}
 use mathlib.Core.List.{List, [], ◌∷◌, ◌++◌}
 use Prim.Native.Nat.{ℕ, ◌<◌}
@@ -14,66 +15,73 @@ use Rattle.model.specs.Writes.{apply, apply_packed, packed_edits}
 use Rattle.model.specs.Demand3.{apply_all}
 use Rattle.slots.specs.Values.{FitsTarget, FitsLine}
 use Rattle.region.specs.Region.{view, Laid, Became}
-use Rattle.writes.specs.declared.OptionWrite.{OptionWrite}
-use Rattle.writes.specs.declared.OptionWrite.TheVariants as next
+use Rattle.writes.specs.declared.NextWrite.{NextWrite}
+use Rattle.writes.specs.declared.NextWrite.TheVariants as next
 use Rattle.writes.specs.Next.{rows_of, mode_of, write_list}
 use Rattle.rows.specs.Rows.{Named, Apart}
 use Rattle.committing.specs.Running.{Makes}
 
 -- ---- each write, made
 
-module _ (r r' : List ℕ) (x : OptionWrite) where
-  pub makes_nothing : Laid r → x ≡ next.NoWrite → Became r (apply_all (write_list (view r) x) (view r))
-  unfolding write_list
-  makes_nothing l e = rw e (record { laid = l; seen = refl })
+pub makes_nothing : (r : List ℕ) (x : Option NextWrite) → Laid r → x ≡ None → Became r (apply_all (write_list (view r) x) (view r))
+unfolding write_list
+makes_nothing r x l e = rw e (record { laid = l; seen = refl })
 
-  pub makes_line : (l : Line) → x ≡ next.AppendLine l → Became r' (with_lines (view r) ((view r).lines ++ (l ∷ []))) → Became r' (apply_all (write_list (view r) x) (view r))
+module _ (r r' : List ℕ) (x : Option NextWrite) (w : NextWrite) (is : x ≡ Some w) where
+  pub makes_line : (l : Line) → w ≡ next.AppendLine l → Became r' (with_lines (view r) ((view r).lines ++ (l ∷ [])))
+      → Became r' (apply_all (write_list (view r) x) (view r))
   unfolding write_list apply
-  makes_line l e b = rw e b
+  makes_line l e b = rw (is, e) b
 
-  pub makes_loose : (n : NameNumber) (t : Target) → x ≡ next.WriteLoose n t → Became r' (change_entry (put_loose (loose.Target t)) n.0 (view r)) → Became r' (apply_all (write_list (view r) x) (view r))
+  pub makes_loose : (n : NameNumber) (t : Target) → w ≡ next.WriteLoose n t → Became r' (change_entry (put_loose (loose.Target t)) n.0 (view r))
+      → Became r' (apply_all (write_list (view r) x) (view r))
   unfolding write_list apply
-  makes_loose n t e b = rw e b
+  makes_loose n t e b = rw (is, e) b
 
-  pub makes_log : (n : NameNumber) → x ≡ next.RemoveLog n → Became r' (with_lines (view r) (select (λ l. not (is_of n l)) (view r).lines)) → Became r' (apply_all (write_list (view r) x) (view r))
+  pub makes_log : (n : NameNumber) → w ≡ next.RemoveLog n → Became r' (with_lines (view r) (select (λ l. not (is_of n l)) (view r).lines))
+      → Became r' (apply_all (write_list (view r) x) (view r))
   unfolding write_list apply
-  makes_log n e b = rw e b
+  makes_log n e b = rw (is, e) b
 
-  pub makes_packed : x ≡ next.WritePacked
+  pub makes_packed : w ≡ next.WritePacked
       → Became r' (with_entries (view r) (apply_packed (packed_edits (view r) (mode_of (view r)) (rows_of (view r))) (view r).entries))
       → Became r' (apply_all (write_list (view r) x) (view r))
   unfolding write_list apply
-  makes_packed e b = rw e b
+  makes_packed e b = rw (is, e) b
 
-  pub makes_gone : (n : NameNumber) → x ≡ next.RemoveLoose n → Became r' (change_entry (put_loose loose.None) n.0 (view r)) → Became r' (apply_all (write_list (view r) x) (view r))
+  pub makes_gone : (n : NameNumber) → w ≡ next.RemoveLoose n → Became r' (change_entry (put_loose loose.None) n.0 (view r))
+      → Became r' (apply_all (write_list (view r) x) (view r))
   unfolding write_list apply
-  makes_gone n e b = rw e b
+  makes_gone n e b = rw (is, e) b
 
-module _ (s : Store) (x : OptionWrite) (m : Makes s x) where
-  pub line_room : (l : Line) → x ≡ next.AppendLine l → length s.lines < 1024
-  unfolding Makes
-  line_room l e = (subst (Makes s) e m).0
+module _ (s : Store) (x : Option NextWrite) (m : Makes s x) (w : NextWrite) (is : x ≡ Some w) where
+  needs : (v : NextWrite) → w ≡ v → Makes s (Some v)
+  needs v e = subst (Makes s) (is ∙ ap Some e) m
 
-  pub line_fits : (l : Line) → x ≡ next.AppendLine l → FitsLine l
+  pub line_room : (l : Line) → w ≡ next.AppendLine l → length s.lines < 1024
   unfolding Makes
-  line_fits l e = (subst (Makes s) e m).1
+  line_room l e = (needs (next.AppendLine l) e).0
 
-  pub loose_named : (n : NameNumber) (t : Target) → x ≡ next.WriteLoose n t → n.0 < count s
+  pub line_fits : (l : Line) → w ≡ next.AppendLine l → FitsLine l
   unfolding Makes
-  loose_named n t e = (subst (Makes s) e m).0
+  line_fits l e = (needs (next.AppendLine l) e).1
 
-  pub loose_fits : (n : NameNumber) (t : Target) → x ≡ next.WriteLoose n t → FitsTarget t
+  pub loose_named : (n : NameNumber) (t : Target) → w ≡ next.WriteLoose n t → n.0 < count s
   unfolding Makes
-  loose_fits n t e = (subst (Makes s) e m).1
+  loose_named n t e = (needs (next.WriteLoose n t) e).0
 
-  pub pack_named : x ≡ next.WritePacked → Named s
+  pub loose_fits : (n : NameNumber) (t : Target) → w ≡ next.WriteLoose n t → FitsTarget t
   unfolding Makes
-  pack_named e = (subst (Makes s) e m).0
+  loose_fits n t e = (needs (next.WriteLoose n t) e).1
 
-  pub pack_apart : x ≡ next.WritePacked → Apart (rows_of s)
+  pub pack_named : w ≡ next.WritePacked → Named s
   unfolding Makes
-  pack_apart e = (subst (Makes s) e m).1
+  pack_named e = (needs next.WritePacked e).0
 
-  pub removed_named : (n : NameNumber) → x ≡ next.RemoveLoose n → n.0 < count s
+  pub pack_apart : w ≡ next.WritePacked → Apart (rows_of s)
   unfolding Makes
-  removed_named n e = subst (Makes s) e m
+  pack_apart e = (needs next.WritePacked e).1
+
+  pub removed_named : (n : NameNumber) → w ≡ next.RemoveLoose n → n.0 < count s
+  unfolding Makes
+  removed_named n e = needs (next.RemoveLoose n) e

@@ -1,4 +1,5 @@
 -- Whatever a place has to write can be made. Assumes nothing.
+use Rattle.std.specs.Prelude.{Option, Some, None}
 use mathlib.Core.Path.{◌≡◌, refl, sym, ap, ◌∙◌, subst}
 use mathlib.Core.Bool.{Bool, true, false, ◌&&◌, ◌||◌, not, cond}
 use mathlib.Core.List.{List, [], ◌∷◌, map}
@@ -29,11 +30,11 @@ use Rattle.slots.specs.Values.{FitsTarget, FitsLine}
 use Rattle.slots.specs.Row.{FitsOption, FitsRow}
 use Rattle.region.specs.Region.{view, Laid}
 use Rattle.region.proofs.Decode.{laid_image}
-use Rattle.writes.specs.declared.OptionWrite.{OptionWrite}
-use Rattle.writes.specs.declared.OptionWrite.TheVariants as next
+use Rattle.writes.specs.declared.NextWrite.{NextWrite}
+use Rattle.writes.specs.declared.NextWrite.TheVariants as next
 use Rattle.writes.specs.Next.{rows_of, mode_of, the_row, write_list, loose_of, first_at, second_at, places}
 use Rattle.rows.specs.Rows.{Named, Apart}
-use Rattle.committing.specs.Running.{Makes, is_no_write}
+use Rattle.committing.specs.Running.{Makes}
 use Rattle.writes.proofs.Place.{first_by_lem}
 use Rattle.writes.proofs.Steps.{head_or, no_write, when_shape, loose_shape}
 use Rattle.committing.proofs.Judge.{shape}
@@ -75,23 +76,18 @@ Needs s (remove_log n) = Unit {0}
 Needs s (write_packed ps) = Named s × Apart (rows_of s)
 Needs s (remove_loose n) = n.0 < count s
 
-needs_makes : (s : Store) (x : OptionWrite) (w : Write) → write_list s x ≡ w ∷ [] → Needs s w → Makes s x
+needs_makes : (s : Store) (x : Option NextWrite) (w : Write) → write_list s x ≡ w ∷ [] → Needs s w → Makes s x
 unfolding write_list Makes
-needs_makes s next.NoWrite w e n = tt
-needs_makes s (next.AppendLine l) w e n = subst (Needs s) (sym (ap (head_or w) e)) n
-needs_makes s (next.WriteLoose m t) w e n = subst (Needs s) (sym (ap (head_or w) e)) n
-needs_makes s (next.RemoveLog m) w e n = tt
-needs_makes s next.WritePacked w e n = subst (Needs s) (sym (ap (head_or w) e)) n
-needs_makes s (next.RemoveLoose m) w e n = subst (Needs s) (sym (ap (head_or w) e)) n
+needs_makes s None w e n = tt
+needs_makes s (Some (next.AppendLine l)) w e n = subst (Needs s) (sym (ap (head_or w) e)) n
+needs_makes s (Some (next.WriteLoose m t)) w e n = subst (Needs s) (sym (ap (head_or w) e)) n
+needs_makes s (Some (next.RemoveLog m)) w e n = tt
+needs_makes s (Some next.WritePacked) w e n = subst (Needs s) (sym (ap (head_or w) e)) n
+needs_makes s (Some (next.RemoveLoose m)) w e n = subst (Needs s) (sym (ap (head_or w) e)) n
 
-nothing_makes : (s : Store) (x : OptionWrite) → is_no_write x ≡ true → Makes s x
+nothing_makes : (s : Store) → Makes s None
 unfolding Makes
-nothing_makes s next.NoWrite e = tt
-nothing_makes s (next.AppendLine l) e = absurd (let z : ◌≡◌ {A = ℕ} 0 1 = cc in omega arith)
-nothing_makes s (next.WriteLoose m t) e = absurd (let z : ◌≡◌ {A = ℕ} 0 1 = cc in omega arith)
-nothing_makes s (next.RemoveLog m) e = tt
-nothing_makes s next.WritePacked e = absurd (let z : ◌≡◌ {A = ℕ} 0 1 = cc in omega arith)
-nothing_makes s (next.RemoveLoose m) e = absurd (let z : ◌≡◌ {A = ℕ} 0 1 = cc in omega arith)
+nothing_makes s = tt
 
 module _ (r : List ℕ) (l : Laid r) (named : Named (view r)) (a : Apart (rows_of (view r))) where
   fits : (i : ℕ) → i < length (rows_of (view r)) → FitsRow (the_row (view r) i)
@@ -157,19 +153,13 @@ module _ (r : List ℕ) (l : Laid r) (named : Named (view r)) (a : Apart (rows_o
       go false p f = no_write w f
 
   -- what turn asks for, of the values that next_first and next_second give
-  pub may_first : (c k : ℕ) (x : OptionWrite) → c ≤ 65535 → k < places (view r) → length (view r).lines + lines_in (first_at (by c) (view r) k) ≤ 1024
+  pub may_first : (c k : ℕ) (x : Option NextWrite) → c ≤ 65535 → k < places (view r) → length (view r).lines + lines_in (first_at (by c) (view r) k) ≤ 1024
       → write_list (view r) x ≡ first_at (by c) (view r) k → Makes (view r) x
-  may_first c k x hc hk room e = go (is_no_write x) refl
-    where
-      go : (b : Bool) → is_no_write x ≡ b → Makes (view r) x
-      go true p = nothing_makes (view r) x p
-      go false p =
-          let sh = shape (view r) x p in
-          needs_makes (view r) x sh.0 sh.1 (first_needs c k sh.0 hc hk (subst (λ (ws : List Write). length (view r).lines + lines_in ws ≤ 1024) (sym e ∙ sh.1) room) (sym e ∙ sh.1))
+  may_first c k None hc hk room e = nothing_makes (view r)
+  may_first c k (Some n) hc hk room e =
+      let sh = shape (view r) n in
+      needs_makes (view r) (Some n) sh.0 sh.1 (first_needs c k sh.0 hc hk (subst (λ (ws : List Write). length (view r).lines + lines_in ws ≤ 1024) (sym e ∙ sh.1) room) (sym e ∙ sh.1))
 
-  pub may_second : (k : ℕ) (x : OptionWrite) → write_list (view r) x ≡ second_at (view r) k → Makes (view r) x
-  may_second k x e = go (is_no_write x) refl
-    where
-      go : (b : Bool) → is_no_write x ≡ b → Makes (view r) x
-      go true p = nothing_makes (view r) x p
-      go false p = let sh = shape (view r) x p in needs_makes (view r) x sh.0 sh.1 (second_needs k sh.0 (sym e ∙ sh.1))
+  pub may_second : (k : ℕ) (x : Option NextWrite) → write_list (view r) x ≡ second_at (view r) k → Makes (view r) x
+  may_second k None e = nothing_makes (view r)
+  may_second k (Some n) e = let sh = shape (view r) n in needs_makes (view r) (Some n) sh.0 sh.1 (second_needs k sh.0 (sym e ∙ sh.1))

@@ -1,4 +1,7 @@
 -- The packed write, row by row: each row by the store as it is. Assumes nothing.
+use Rattle.std.specs.Prelude.{Option, Some, None}
+use Rattle.target.specs.declared.Target.{Target}
+use Rattle.target.specs.declared.ObjectNumber.{ObjectNumber}
 use mathlib.Core.Path.{◌≡◌, refl, sym, ap, ap₂, ◌∙◌, subst}
 use mathlib.Core.Bool.{Bool, true, false, ◌&&◌, cond}
 use mathlib.Core.List.{List, [], ◌∷◌, ◌++◌}
@@ -8,14 +11,10 @@ use native.Mathlib.Numerals.{add-one}
 use lib.ListN.{length, get_or, drop, drop_of_length-le, length-drop}
 use lib.Seq.{drop-cons, get_or-drop}
 use Rattle.target.specs.declared.NameNumber.{NameNumber}
-use Rattle.target.specs.declared.OptionTarget.{OptionTarget}
-use Rattle.target.specs.declared.OptionTarget.TheVariants.{Absent, Present}
 use Rattle.target.specs.declared.Target.TheVariants.{Object, Symbolic}
 use Rattle.transaction.specs.declared.PackedRefs.{PackedRefs}
 use Rattle.transaction.specs.declared.Edit.{Edit}
 use Rattle.transaction.specs.Change.{new_value, is_delete}
-use Rattle.model.specs.declared.Packed.{Packed}
-use Rattle.model.specs.declared.Packed.TheVariants as packed
 use Rattle.model.specs.Basic.{collect, when}
 use Rattle.model.specs.Store.{Store, Entry, no_entry, no_row, count, entry_at, entry_of, is_packed, put_packed, change_at, change_entry, with_entries}
 use Rattle.model.specs.Rows.{name_in, change_in, row_at, counts, packs_updates}
@@ -30,52 +29,50 @@ use Rattle.slots.specs.Values.{FitsPacked}
 use Rattle.slots.specs.Row.{FitsOption, FitsRow}
 use Rattle.region.specs.Region.{view, Laid, Became}
 use Rattle.region.proofs.Decode.{laid_image}
-use Rattle.writes.specs.declared.OptionPackedEdit.{OptionPackedEdit}
-use Rattle.writes.specs.declared.OptionPackedEdit.TheVariants.{NoPackedEdit, Sets}
 use Rattle.writes.specs.Next.{rows_of, mode_of, the_row, packed_list}
 use Rattle.rows.specs.Rows.{Named, Apart}
 
 -- ---- one row's part of the packed write
 
 -- the value that is set is none, or the object of a row that fits
-abbrev one : NameNumber → Packed → List PackedEdit
+abbrev one : NameNumber → Option ObjectNumber → List PackedEdit
 one n v = record { name = n; value = v } ∷ []
 
-abbrev first_value : List PackedEdit → Packed
-first_value [] = packed.None
+abbrev first_value : List PackedEdit → Option ObjectNumber
+first_value [] = None
 first_value (p ∷ ps) = p.value
 
-not_empty : {P : Type 0} (n : NameNumber) (v : Packed) → one n v ≡ [] → P
+not_empty : {P : Type 0} (n : NameNumber) (v : Option ObjectNumber) → one n v ≡ [] → P
 not_empty n v e = absurd (let z : ◌≡◌ {A = ℕ} 0 1 = cc in omega arith)
 
-none_fits : (n : NameNumber) (v : Packed) (b : Bool) → one n v ≡ when b (record { name = n; value = packed.None }) → FitsPacked v
+none_fits : (n : NameNumber) (v : Option ObjectNumber) (b : Bool) → one n v ≡ when b (record { name = n; value = None }) → FitsPacked v
 none_fits n v true e = subst FitsPacked (sym (ap first_value e)) tt
 none_fits n v false e = not_empty n v e
 
-edit_fits_by : (n : NameNumber) (v : Packed) (new : OptionTarget) (c u b : Bool) → FitsOption new
-    → one n v ≡ cond c (cond u (packed_set n new) [] ++ when b (record { name = n; value = packed.None })) [] → FitsPacked v
+edit_fits_by : (n : NameNumber) (v : Option ObjectNumber) (new : Option Target) (c u b : Bool) → FitsOption new
+    → one n v ≡ cond c (cond u (packed_set n new) [] ++ when b (record { name = n; value = None })) [] → FitsPacked v
 edit_fits_by n v new false u b f e = not_empty n v e
 edit_fits_by n v new true false b f e = none_fits n v b e
-edit_fits_by n v Absent true true b f e = none_fits n v b e
-edit_fits_by n v (Present (Object o)) true true b f e = subst FitsPacked (sym (ap first_value e)) f
-edit_fits_by n v (Present (Symbolic m)) true true b f e = none_fits n v b e
+edit_fits_by n v None true true b f e = none_fits n v b e
+edit_fits_by n v (Some (Object o)) true true b f e = subst FitsPacked (sym (ap first_value e)) f
+edit_fits_by n v (Some (Symbolic m)) true true b f e = none_fits n v b e
 
-module _ (r : List ℕ) (mode : PackedRefs) (i : ℕ) (x : Edit) (o : OptionPackedEdit) (l : Laid r) (ex : x ≡ the_row (view r) i)
+module _ (r : List ℕ) (mode : PackedRefs) (i : ℕ) (x : Edit) (o : Option (Option ObjectNumber)) (l : Laid r) (ex : x ≡ the_row (view r) i)
     (eo : packed_list (name_in x) o ≡ packed_edit (view r) mode x) where
-  pub edit_fits : (v : Packed) → i < length (rows_of (view r)) → o ≡ Sets v → FitsPacked v
+  pub edit_fits : (v : Option ObjectNumber) → i < length (rows_of (view r)) → o ≡ Some v → FitsPacked v
   unfolding packed_edit
   edit_fits v h e =
       let f : FitsRow x = subst FitsRow (sym ex) ((laid_image r l).1.row i h) in
       let g : one (name_in x) v ≡ packed_edit (view r) mode x = sym (ap (packed_list (name_in x)) e) ∙ eo in
       edit_fits_by (name_in x) v (new_value (change_in x)) (counts (view r) x) (packs_updates mode) (is_delete (change_in x) && is_packed (entry_of (view r) (name_in x)).packed) f.new g
 
-  pub pack_none : o ≡ NoPackedEdit
+  pub pack_none : o ≡ None
       → Became r (with_entries (view r) (apply_packed (packed_edit (view r) mode (the_row (view r) i)) (view r).entries))
   pack_none e =
       let g : packed_edit (view r) mode (the_row (view r) i) ≡ [] = ap (packed_edit (view r) mode) (sym ex) ∙ sym eo ∙ ap (packed_list (name_in x)) e in
       record { laid = l; seen = ap (λ (ps : List PackedEdit). with_entries (view r) (apply_packed ps (view r).entries)) (sym g) }
 
-  pub pack_set : (v : Packed) (r' : List ℕ) → o ≡ Sets v → Became r' (change_entry (put_packed v) (name_in x).0 (view r))
+  pub pack_set : (v : Option ObjectNumber) (r' : List ℕ) → o ≡ Some v → Became r' (change_entry (put_packed v) (name_in x).0 (view r))
       → Became r' (with_entries (view r) (apply_packed (packed_edit (view r) mode (the_row (view r) i)) (view r).entries))
   pack_set v r' e b =
       let g : packed_edit (view r) mode (the_row (view r) i) ≡ one (name_in x) v =

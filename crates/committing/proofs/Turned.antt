@@ -1,9 +1,9 @@
 -- A turn, by what it leaves: the store as it was, or with one write made. Assumes nothing.
+use Rattle.std.specs.Prelude.{Option}
 use mathlib.Core.Path.{◌≡◌, refl, sym, subst}
 use mathlib.Core.List.{List, [], ◌∷◌}
 use mathlib.Core.Logic.{◌⊎◌}
 use mathlib.Core.Logic.◌⊎◌.{inl, inr}
-use mathlib.Core.Option.{Option}
 use Prim.Native.Nat.{ℕ, ◌≤◌, ◌<◌}
 use native.Mathlib.Omega.{arith}
 use lib.ListN.{length}
@@ -16,7 +16,7 @@ use Rattle.model.specs.Demand3.{by}
 use Rattle.model.proofs.KeptCommit.{apply_count}
 use Rattle.region.specs.Region.{view}
 use Rattle.rows.specs.Rows.{Named, Apart}
-use Rattle.writes.specs.declared.OptionWrite.{OptionWrite}
+use Rattle.writes.specs.declared.NextWrite.{NextWrite}
 use Rattle.writes.specs.Next.{rows_of, the_row, write_list, first_at, second_at}
 use Rattle.committing.specs.declared.Ran.{Ran}
 use Rattle.committing.specs.Running.{Turned, Placed}
@@ -57,7 +57,7 @@ module _ (stamp : Stamp) (us : List Write) (a b : Ran) (r r' : List ℕ) (t : Tu
 
 -- ---- the two turns of a place
 
-module _ (c k : ℕ) (r : List ℕ) (x : OptionWrite) (a b : Ran) (r' : List ℕ) (t : Turned (by c) a (write_list (view r) x) b r r') where
+module _ (c k : ℕ) (r : List ℕ) (x : Option NextWrite) (a b : Ran) (r' : List ℕ) (t : Turned (by c) a (write_list (view r) x) b r r') where
   pub turned_first : write_list (view r) x ≡ first_at (by c) (view r) k → Turned (by c) a (first_at (by c) (view r) k) b r r'
   turned_first e = subst (λ (us : List Write). Turned (by c) a us b r r') e t
 

@@ -1,6 +1,5 @@
 -- What a write needs of a store, and a run of writes as far as it has come.
-use Rattle.std.specs.Prelude.{◌≡◌, Bool, true, false, List, [], ◌∷◌, ◌++◌, ◌⊎◌, ℕ, ◌+◌, ◌≤◌, ◌<◌, length}
-use Rattle.std.proofs.Math.Option.{Option, none, some}
+use Rattle.std.specs.Prelude.{◌≡◌, Bool, true, false, List, [], ◌∷◌, ◌++◌, ◌⊎◌, ℕ, ◌+◌, ◌≤◌, ◌<◌, length, Option, Some, None}
 use Rattle.model.specs.Store.{Store, count}
 use Rattle.model.specs.Due.{Stamp}
 use Rattle.model.specs.Writes.{Write, apply}
@@ -10,66 +9,53 @@ use Rattle.model.specs.Numbers.{stop_number}
 use Rattle.slots.specs.Values.{FitsTarget, FitsLine}
 use Rattle.region.specs.Region.{view, Laid}
 use Rattle.rows.specs.Rows.{Named, Apart}
-use Rattle.writes.specs.declared.OptionWrite.{OptionWrite}
-use Rattle.writes.specs.declared.OptionWrite.TheVariants.{NoWrite, AppendLine, WriteLoose, RemoveLog, WritePacked, RemoveLoose}
+use Rattle.writes.specs.declared.NextWrite.{NextWrite}
+use Rattle.writes.specs.declared.NextWrite.TheVariants.{AppendLine, WriteLoose, RemoveLog, WritePacked, RemoveLoose}
 use Rattle.writes.specs.Next.{rows_of, first_at, second_at}
 use Rattle.committing.specs.declared.Halt.{Halt}
-use Rattle.committing.specs.declared.Halt.TheVariants.{GoesOn, NoCommitter, UsedUp}
+use Rattle.committing.specs.declared.Halt.TheVariants.{NoCommitter, UsedUp}
 use Rattle.committing.specs.declared.Ran.{Ran}
 
 -- ---- what a write needs: room for a line, registered names, values that their bytes can hold
 
-unfoldable pub Makes : Store → OptionWrite → Type 0
-Makes s NoWrite = Unit {0}
-Makes s (AppendLine l) = (length s.lines < 1024) × FitsLine l
-Makes s (WriteLoose n t) = (n.0 < count s) × FitsTarget t
-Makes s (RemoveLog n) = Unit {0}
-Makes s WritePacked = Named s × Apart (rows_of s)
-Makes s (RemoveLoose n) = n.0 < count s
+unfoldable pub Makes : Store → Option NextWrite → Type 0
+Makes s None = Unit {0}
+Makes s (Some (AppendLine l)) = (length s.lines < 1024) × FitsLine l
+Makes s (Some (WriteLoose n t)) = (n.0 < count s) × FitsTarget t
+Makes s (Some (RemoveLog n)) = Unit {0}
+Makes s (Some WritePacked) = Named s × Apart (rows_of s)
+Makes s (Some (RemoveLoose n)) = n.0 < count s
 
 -- ---- which write it is
 
-abbrev pub is_line_write : OptionWrite → Bool
-is_line_write NoWrite = false
-is_line_write (AppendLine l) = true
-is_line_write (WriteLoose n t) = false
-is_line_write (RemoveLog n) = false
-is_line_write WritePacked = false
-is_line_write (RemoveLoose n) = false
-
-abbrev pub is_no_write : OptionWrite → Bool
-is_no_write NoWrite = true
-is_no_write (AppendLine l) = false
-is_no_write (WriteLoose n t) = false
-is_no_write (RemoveLog n) = false
-is_no_write WritePacked = false
-is_no_write (RemoveLoose n) = false
+abbrev pub is_line_write : Option NextWrite → Bool
+is_line_write None = false
+is_line_write (Some (AppendLine l)) = true
+is_line_write (Some (WriteLoose n t)) = false
+is_line_write (Some (RemoveLog n)) = false
+is_line_write (Some WritePacked) = false
+is_line_write (Some (RemoveLoose n)) = false
 
 -- ---- a run
 
-abbrev pub is_going : Halt → Bool
-is_going GoesOn = true
-is_going NoCommitter = false
-is_going UsedUp = false
-
--- why the model's run stopped
-abbrev pub stop_of : Halt → Option Stop
-stop_of GoesOn = none
-stop_of NoCommitter = some no_committer
-stop_of UsedUp = some used_up
+-- why the model's run stopped, if it has
+abbrev pub stop_of : Option Halt → Option Stop
+stop_of None = None
+stop_of (Some NoCommitter) = Some no_committer
+stop_of (Some UsedUp) = Some used_up
 
 -- and the number that the caller gets
 abbrev pub number_of : Option Stop → ℕ
-number_of none = 0
-number_of (some why) = stop_number why
+number_of None = 0
+number_of (Some why) = stop_number why
 
-abbrev pub halt_number : Halt → ℕ
+abbrev pub halt_number : Option Halt → ℕ
 halt_number h = number_of (stop_of h)
 
 -- the run that has come so far, with these writes before it
 abbrev pub onward : Stamp → Ran → Option Stop → List Write → Store → Run
-onward stamp a none ws s = run stamp a.left ws a.made s
-onward stamp a (some why) ws s = record { store = s; made = a.made; stop = some why }
+onward stamp a None ws s = run stamp a.left ws a.made s
+onward stamp a (Some why) ws s = record { store = s; made = a.made; stop = Some why }
 
 unfoldable pub rest : Stamp → Ran → List Write → Store → Run
 rest stamp a ws s = onward stamp a (stop_of a.stop) ws s

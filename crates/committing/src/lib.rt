@@ -20,13 +20,13 @@ ghost use Rattle.writes.specs.Next.{rows_of, mode_of, write_list, first_at, seco
 ghost use Rattle.writes.specs.Told.{Told};
 ghost use Rattle.answers.specs.Answers.{answer_by};
 ghost use Rattle.calls.specs.Call.{reply_to, Replied};
-ghost use Rattle.committing.specs.Running.{Makes, is_line_write, is_no_write, is_going, halt_number, Turned, Placed, RanOut};
+ghost use Rattle.committing.specs.Running.{Makes, is_line_write, halt_number, Turned, Placed, RanOut};
 
 use answers::{Answer, Verdict};
-use model::{Line, Loose};
+use model::{Line, Loose, Refusal};
 use target::NameNumber;
 use transaction::PackedRefs;
-use writes::{OptionPackedEdit, OptionWrite};
+use writes::NextWrite;
 
 // ---- a write, made
 
@@ -38,12 +38,9 @@ fn pack_row(region: &mut [u8], mode: PackedRefs, i: usize)
     ensures { Became region.new (with_entries (view region.old) (apply_packed (packed_edit (view region.old) mode (row_at (rows_of (view region.old)) i)) (view region.old).entries)) }
 {
     let row = region::row_at(region, i);
-    let update = row.update;
-    let name = update.name;
-    let OptionPackedEdit::Sets(v) = writes::packed_edit(region, mode, row) else {
-        return;
-    };
-    writers::put_packed_at(region, name, v);
+    if let Some(v) = writes::packed_edit(region, mode, row) {
+        writers::put_packed_at(region, row.update.name, v);
+    }
 }
 
 // W3: one write, whatever the number of rows; no stop comes between them.
@@ -55,138 +52,78 @@ fn pack_rows(region: &mut [u8])
 {
     let mode = region::mode(region);
     let rows = region::count_rows(region);
-    let mut i: usize = 0;
-    while i < rows {
+    for i in 0..rows {
         pack_row(region, mode, i);
-        i += 1;
     }
 }
 
-fn make(region: &mut [u8], next: OptionWrite)
+fn make(region: &mut [u8], next: Option<NextWrite>)
     requires laid { Laid region.old }
     requires makes { Makes (view region.old) next }
     ensures { Became region.new (apply_all (write_list (view region.old) next) (view region.old)) }
 {
     match next {
-        OptionWrite::NoWrite => {}
-        OptionWrite::AppendLine(line) => {
-            writers::add_line(region, line);
-        }
-        OptionWrite::WriteLoose(name, t) => {
-            writers::put_loose_at(region, name, Loose::Target(t));
-        }
-        OptionWrite::RemoveLog(name) => {
-            writers::remove_lines(region, name);
-        }
-        OptionWrite::WritePacked => {
-            pack_rows(region);
-        }
-        OptionWrite::RemoveLoose(name) => {
-            writers::put_loose_at(region, name, Loose::None);
-        }
+        None => {}
+        Some(NextWrite::AppendLine(line)) => writers::add_line(region, line),
+        Some(NextWrite::WriteLoose(n, t)) => writers::put_loose_at(region, n, Loose::Target(t)),
+        Some(NextWrite::RemoveLog(n)) => writers::remove_lines(region, n),
+        Some(NextWrite::WritePacked) => pack_rows(region),
+        Some(NextWrite::RemoveLoose(n)) => writers::put_loose_at(region, n, Loose::None),
     }
 }
 
 // ---- a turn
 
-// Why a run has stopped, if it has.
+// Why a run has stopped.
 #[derive(Clone, Copy)]
 pub enum Halt {
-    GoesOn,
     NoCommitter,
     UsedUp,
 }
 
-// How far a run has come: the allowance that is left, the writes made, and why it stopped.
+// How far a run has come: the allowance that is left, the writes made, and why it stopped, if it has.
 #[derive(Clone, Copy)]
 pub struct Ran {
     pub left: u64,
     pub made: u64,
-    pub stop: Halt,
-}
-
-fn is_going(stop: Halt) -> bool
-    ensures { result ≡ is_going stop }
-{
-    match stop {
-        Halt::GoesOn => true,
-        Halt::NoCommitter => false,
-        Halt::UsedUp => false,
-    }
-}
-
-fn is_no_write(next: OptionWrite) -> bool
-    ensures { result ≡ is_no_write next }
-{
-    match next {
-        OptionWrite::NoWrite => true,
-        OptionWrite::AppendLine(_) => false,
-        OptionWrite::WriteLoose(_, _) => false,
-        OptionWrite::RemoveLog(_) => false,
-        OptionWrite::WritePacked => false,
-        OptionWrite::RemoveLoose(_) => false,
-    }
-}
-
-fn is_line_write(next: OptionWrite) -> bool
-    ensures { result ≡ is_line_write next }
-{
-    match next {
-        OptionWrite::NoWrite => false,
-        OptionWrite::AppendLine(_) => true,
-        OptionWrite::WriteLoose(_, _) => false,
-        OptionWrite::RemoveLog(_) => false,
-        OptionWrite::WritePacked => false,
-        OptionWrite::RemoveLoose(_) => false,
-    }
+    pub stop: Option<Halt>,
 }
 
 // A log line needs a committer.
-fn wants_committer(next: OptionWrite, committer: u16) -> bool
+fn wants_committer(next: Option<NextWrite>, committer: u16) -> bool
     ensures { result ≡ (is_line_write next && eqb committer 0) }
 {
-    if is_line_write(next) {
-        return committer == 0;
-    }
-    false
+    matches!(next, Some(NextWrite::AppendLine(_))) && committer == 0
 }
 
 // One turn: passed if the run has stopped or there is nothing to write; else allowance used up, 17; else a line without
 // committer, 16; else the write is made and counted. There are at most 481 places of two writes, so the count is far from its bound.
-fn turn(region: &mut [u8], committer: u16, next: OptionWrite, at: Ran) -> Ran
+fn turn(region: &mut [u8], committer: u16, next: Option<NextWrite>, at: Ran) -> Ran
     requires laid { Laid region.old }
     requires makes { Makes (view region.old) next }
     requires made_bound { at.made ≤ 2000 }
     ensures { Turned (by committer) at (write_list (view region.old) next) result region.old region.new }
 {
-    let stop = at.stop;
-    let left = at.left;
-    let made = at.made;
-    if !is_going(stop) {
+    if at.stop.is_some() || next.is_none() {
         return at;
     }
-    if is_no_write(next) {
-        return at;
-    }
-    if left == 0 {
+    if at.left == 0 {
         return Ran {
-            left,
-            made,
-            stop: Halt::UsedUp,
+            stop: Some(Halt::UsedUp),
+            ..at
         };
     }
     if wants_committer(next, committer) {
         return Ran {
-            left,
-            made,
-            stop: Halt::NoCommitter,
+            stop: Some(Halt::NoCommitter),
+            ..at
         };
     }
     make(region, next);
     Ran {
-        left: left - 1,
-        made: made + 1,
-        stop: Halt::GoesOn,
+        left: at.left - 1,
+        made: at.made + 1,
+        stop: None,
     }
 }
 
@@ -249,12 +186,10 @@ fn commit_places(region: &mut [u8], flags: &[bool], committer: u16, allowance: u
     let mut at = Ran {
         left: allowance,
         made: 0,
-        stop: Halt::GoesOn,
+        stop: None,
     };
-    let mut k: usize = 0;
-    while k < places {
+    for k in 0..places {
         at = place_turns(region, flags, committer, k, at);
-        k += 1;
     }
     at
 }
@@ -275,17 +210,15 @@ fn commit_inner(region: &mut [u8], committer: u16, allowance: u64) -> Ran
 fn report(ran: Ran) -> Verdict
     ensures { answer_by result ≡ answer (halt_number ran.stop) (ran.made ∷ []) }
 {
-    let stop = ran.stop;
-    let made = ran.made;
-    match stop {
-        Halt::GoesOn => Verdict::one(Answer::DONE, made),
-        Halt::NoCommitter => Verdict::one(Answer::NO_COMMITTER, made),
-        Halt::UsedUp => Verdict::one(Answer::USED_UP, made),
+    match ran.stop {
+        None => Verdict::done(&[ran.made]),
+        Some(Halt::NoCommitter) => Verdict::new(Answer::NO_COMMITTER, &[ran.made]),
+        Some(Halt::UsedUp) => Verdict::new(Answer::USED_UP, &[ran.made]),
     }
 }
 
 // The writes of the prepared transaction; then our locks are free, and it is forgotten.
-fn commit_by(region: &mut [u8], committer: u16, allowance: u64) -> Verdict
+fn commit_by(region: &mut [u8], committer: u16, allowance: u64) -> Result<Verdict, Refusal>
     requires laid { Laid region.old }
     requires fine { Fine (view region.old) }
     requires region_value { is_prepared (view region.old).prepared ≡ true }
@@ -294,30 +227,30 @@ fn commit_by(region: &mut [u8], committer: u16, allowance: u64) -> Verdict
 {
     let ran = commit_inner(region, committer, allowance);
     steps::release(region);
-    report(ran)
+    Ok(report(ran))
 }
 
 // 2, then the writes: a transaction is prepared. An allowance may be any number.
-fn commit_prepared(region: &mut [u8], committer: u64, allowance: u64) -> Verdict
+fn commit_prepared(region: &mut [u8], committer: u64, allowance: u64) -> Result<Verdict, Refusal>
     requires laid { Laid region.old }
     requires fine { Fine (view region.old) }
     requires region_value { is_prepared (view region.old).prepared ≡ true }
     ensures { Replied result region.old region.new (step (commit committer allowance) (view region.old)) }
 {
     if committer > Line::COMMITTERS {
-        return Verdict::bare(Answer::MALFORMED);
+        return Err(Refusal::Malformed);
     }
     commit_by(region, committer as u16, allowance)
 }
 
-pub fn commit(region: &mut [u8], committer: u64, allowance: u64) -> Verdict
+pub fn commit(region: &mut [u8], committer: u64, allowance: u64) -> Result<Verdict, Refusal>
     ensures { Replied result region.old region.new (reply_to (commit committer allowance) region.old) }
 {
     if !good::is_good(region) {
-        return Verdict::bare(Answer::BAD_REGION);
+        return Err(Refusal::BadRegion);
     }
     if region::mode_number(region) == 0 {
-        return Verdict::bare(Answer::WRONG_STATE);
+        return Err(Refusal::WrongState);
     }
     commit_prepared(region, committer, allowance)
 }

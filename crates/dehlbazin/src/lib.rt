@@ -21,8 +21,7 @@ pub fn dehlbazin_start(region: &mut [u8], setting: u64, answer: &mut [u8]) -> u3
     if answer.len() != Answer::SIZE {
         return Answer::BAD_REGION;
     }
-    let verdict = calls::start_with(region, setting);
-    answers::finish(answer, verdict)
+    answers::finish(answer, calls::start_with(region, setting))
 }
 
 // The same with the log setting of a settings record, of version 1 or 2.
@@ -32,8 +31,7 @@ pub fn dehlbazin_start_with_settings(region: &mut [u8], bytes: &[u8], answer: &m
     if answer.len() != Answer::SIZE {
         return Answer::BAD_REGION;
     }
-    let verdict = calls::start_with_settings(region, bytes);
-    answers::finish(answer, verdict)
+    answers::finish(answer, calls::start_with_settings(region, bytes))
 }
 
 // Adds a name, or finds it: its number.
@@ -43,8 +41,7 @@ pub fn dehlbazin_add_name(region: &mut [u8], name: &[u8], answer: &mut [u8]) -> 
     if answer.len() != Answer::SIZE {
         return Answer::BAD_REGION;
     }
-    let verdict = naming::add_name(region, name);
-    answers::finish(answer, verdict)
+    answers::finish(answer, naming::add_name(region, name))
 }
 
 // Where the bytes of a name stand in the region: offset and length.
@@ -54,8 +51,7 @@ pub fn dehlbazin_name_bytes(region: &[u8], name: u64, answer: &mut [u8]) -> u32
     if answer.len() != Answer::SIZE {
         return Answer::BAD_REGION;
     }
-    let verdict = naming::name_bytes(region, name);
-    answers::finish(answer, verdict)
+    answers::finish(answer, naming::name_bytes(region, name))
 }
 
 // Sets the loose value of a name.
@@ -71,8 +67,7 @@ pub fn dehlbazin_load_loose(
     if answer.len() != Answer::SIZE {
         return Answer::BAD_REGION;
     }
-    let verdict = loads::load_loose(region, name, kind, number);
-    answers::finish(answer, verdict)
+    answers::finish(answer, loads::load_loose(region, name, kind, number))
 }
 
 // Sets the packed value of a name.
@@ -88,8 +83,7 @@ pub fn dehlbazin_load_packed(
     if answer.len() != Answer::SIZE {
         return Answer::BAD_REGION;
     }
-    let verdict = loads::load_packed(region, name, kind, number);
-    answers::finish(answer, verdict)
+    answers::finish(answer, loads::load_packed(region, name, kind, number))
 }
 
 // Places a foreign lock on a name, kind 0, or on the packed table, kind 1, beside which the number is not looked at.
@@ -99,8 +93,7 @@ pub fn dehlbazin_place_lock(region: &mut [u8], kind: u64, number: u64, answer: &
     if answer.len() != Answer::SIZE {
         return Answer::BAD_REGION;
     }
-    let verdict = locks::place_lock(region, kind, number);
-    answers::finish(answer, verdict)
+    answers::finish(answer, locks::place_lock(region, kind, number))
 }
 
 // Lifts it.
@@ -110,8 +103,7 @@ pub fn dehlbazin_lift_lock(region: &mut [u8], kind: u64, number: u64, answer: &m
     if answer.len() != Answer::SIZE {
         return Answer::BAD_REGION;
     }
-    let verdict = locks::lift_lock(region, kind, number);
-    answers::finish(answer, verdict)
+    answers::finish(answer, locks::lift_lock(region, kind, number))
 }
 
 // Judges a list of edits and takes their locks: how many rows the transaction has.
@@ -121,8 +113,7 @@ pub fn dehlbazin_prepare(region: &mut [u8], list: &[u8], mode: u64, answer: &mut
     if answer.len() != Answer::SIZE {
         return Answer::BAD_REGION;
     }
-    let verdict = preparing::prepare(region, list, mode);
-    answers::finish(answer, verdict)
+    answers::finish(answer, preparing::prepare(region, list, mode))
 }
 
 // Makes the writes of the prepared transaction in their order, as many as the allowance lets it: how many it made.
@@ -132,8 +123,7 @@ pub fn dehlbazin_commit(region: &mut [u8], committer: u64, allowance: u64, answe
     if answer.len() != Answer::SIZE {
         return Answer::BAD_REGION;
     }
-    let verdict = committing::commit(region, committer, allowance);
-    answers::finish(answer, verdict)
+    answers::finish(answer, committing::commit(region, committer, allowance))
 }
 
 // Forgets the prepared transaction and frees its locks: how many rows it had.
@@ -143,8 +133,7 @@ pub fn dehlbazin_rollback(region: &mut [u8], answer: &mut [u8]) -> u32
     if answer.len() != Answer::SIZE {
         return Answer::BAD_REGION;
     }
-    let verdict = calls::roll_back(region);
-    answers::finish(answer, verdict)
+    answers::finish(answer, calls::roll_back(region))
 }
 
 // What a name reads, and where that is found.
@@ -154,8 +143,7 @@ pub fn dehlbazin_read_name(region: &[u8], name: u64, answer: &mut [u8]) -> u32
     if answer.len() != Answer::SIZE {
         return Answer::BAD_REGION;
     }
-    let verdict = reads::read_name(region, name);
-    answers::finish(answer, verdict)
+    answers::finish(answer, reads::read_name(region, name))
 }
 
 // A line of a name's log, by its place among them.
@@ -165,8 +153,7 @@ pub fn dehlbazin_read_line(region: &[u8], name: u64, place: u64, answer: &mut [u
     if answer.len() != Answer::SIZE {
         return Answer::BAD_REGION;
     }
-    let verdict = reads::read_line(region, name, place);
-    answers::finish(answer, verdict)
+    answers::finish(answer, reads::read_line(region, name, place))
 }
 
 // A row of the prepared transaction, and where its existing value was found.
@@ -176,8 +163,7 @@ pub fn dehlbazin_read_row(region: &[u8], place: u64, answer: &mut [u8]) -> u32
     if answer.len() != Answer::SIZE {
         return Answer::BAD_REGION;
     }
-    let verdict = reads::read_row(region, place);
-    answers::finish(answer, verdict)
+    answers::finish(answer, reads::read_row(region, place))
 }
 
 // ---- the packed table as text
@@ -189,8 +175,7 @@ pub fn dehlbazin_write_packed(region: &[u8], buffer: &mut [u8], answer: &mut [u8
     if answer.len() != Answer::SIZE {
         return Answer::BAD_REGION;
     }
-    let verdict = packing::write_packed(region, buffer);
-    answers::finish(answer, verdict)
+    answers::finish(answer, packing::write_packed(region, buffer))
 }
 
 // Puts what a text says in the place of all packed values: how many refs it has.
@@ -200,8 +185,7 @@ pub fn dehlbazin_read_packed(region: &mut [u8], text: &[u8], answer: &mut [u8]) 
     if answer.len() != Answer::SIZE {
         return Answer::BAD_REGION;
     }
-    let verdict = packing::read_packed(region, text);
-    answers::finish(answer, verdict)
+    answers::finish(answer, packing::read_packed(region, text))
 }
 
 // ---- settings records, with no region
@@ -213,8 +197,7 @@ pub fn dehlbazin_read_settings(bytes: &[u8], known: u64, answer: &mut [u8]) -> u
     if answer.len() != Answer::SIZE {
         return Answer::BAD_REGION;
     }
-    let verdict = records::read_settings(bytes, known);
-    answers::finish(answer, verdict)
+    answers::finish(answer, records::read_settings(bytes, known))
 }
 
 // A committer of it by place: its number, and where its name stands in the record.
@@ -224,8 +207,7 @@ pub fn dehlbazin_read_committer(bytes: &[u8], known: u64, place: u64, answer: &m
     if answer.len() != Answer::SIZE {
         return Answer::BAD_REGION;
     }
-    let verdict = records::read_committer(bytes, known, place);
-    answers::finish(answer, verdict)
+    answers::finish(answer, records::read_committer(bytes, known, place))
 }
 
 // Writes a settings record at the beginning of a buffer: its length.
@@ -245,10 +227,10 @@ pub fn dehlbazin_write_settings(
     if answer.len() != Answer::SIZE {
         return Answer::BAD_REGION;
     }
-    let verdict = records::write_settings(
-        buffer, version, log, mode, site, numbers, lengths, names,
-    );
-    answers::finish(answer, verdict)
+    answers::finish(
+        answer,
+        records::write_settings(buffer, version, log, mode, site, numbers, lengths, names),
+    )
 }
 
 // ---- a list of edits in fragments: a receiver collects them, with no region, and closing gives them to prepare
@@ -260,8 +242,7 @@ pub fn dehlbazin_fresh_receiver(receiver: &mut [u8], answer: &mut [u8]) -> u32
     if answer.len() != Answer::SIZE {
         return Answer::BAD_REGION;
     }
-    let verdict = receiving::fresh_receiver(receiver);
-    answers::finish(answer, verdict)
+    answers::finish(answer, receiving::fresh_receiver(receiver))
 }
 
 // Takes a fragment of any length: how many bytes are held now.
@@ -271,8 +252,7 @@ pub fn dehlbazin_take_fragment(receiver: &mut [u8], fragment: &[u8], answer: &mu
     if answer.len() != Answer::SIZE {
         return Answer::BAD_REGION;
     }
-    let verdict = receiving::take_fragment(receiver, fragment);
-    answers::finish(answer, verdict)
+    answers::finish(answer, receiving::take_fragment(receiver, fragment))
 }
 
 // Prepares what a receiver holds, as prepare does, and leaves a fresh one.
@@ -287,6 +267,5 @@ pub fn dehlbazin_close_receiver(
     if answer.len() != Answer::SIZE {
         return Answer::BAD_REGION;
     }
-    let verdict = receiving::close_receiver(region, receiver, mode);
-    answers::finish(answer, verdict)
+    answers::finish(answer, receiving::close_receiver(region, receiver, mode))
 }

@@ -1,34 +1,30 @@
 -- The records of a list that is framed, and of one that is well formed. Assumes nothing.
+use Rattle.std.specs.Prelude.{Option, Some, None, unwrap_or}
 use mathlib.Core.Path.{◌≡◌, refl, sym, ap, subst, ◌∙◌}
-use mathlib.Core.Bool.{Bool, true, false, ◌&&◌, not, and-true}
+use mathlib.Core.Bool.{Bool, true, false, ◌&&◌, and-true}
 use mathlib.Core.List.{List, [], ◌∷◌, ◌++◌}
-use mathlib.Core.Option
-use mathlib.Core.Option.{Option, none, some}
 use Prim.Native.Nat.{ℕ, zero, suc, ◌+◌, ◌-◌, ◌*◌, ◌≤◌, ◌<◌}
 use native.Mathlib.Omega.{arith}
 use lib.ListN.{length, get_or, take, drop}
+use Rattle.std.proofs.lemmas.List.{take_all, take_rest, drop-drop, length-drop, length-append}
+use Rattle.std.proofs.lemmas.List.Prefix.{front_rest}
 use lib.Seq.{get_or-take, get_or-drop}
 use lib.Dec.{lit<, eqb, leb}
 use lib.Pow.{are_bytes}
 use mir.Syntax.{w8, w64}
 use mir.Val.{Fits}
-use borrow.Author.Tests.{leb-true, eqb-true, eq-eqb, ne_eqb, le-leb, lt-leb, not-true, not-false}
+use borrow.Author.Tests.{leb-true, eqb-true, eq-eqb, ne_eqb, le-leb, lt-leb}
 use Rattle.word.specs.Be.{cut, val}
 use Rattle.word.specs.Codec.{is_some}
 use Rattle.word.proofs.Be.{bytes_all, bytes_are, val_cut}
-use Rattle.word.proofs.Cut.{length_cut}
+use Rattle.word.proofs.Cut.{cut_left}
 use Rattle.word.proofs.Tests.{every_at, every_false}
 use Rattle.transaction.specs.declared.RefEdit.{RefEdit}
 use Rattle.model.specs.Basic.{collect}
 use Rattle.model.specs.EditList.{◌>>=◌, flag_of, target_of, byte_at, edit_of, edits_from, is_framed, edits_of, numbers_of, first_out}
 use Rattle.model.proofs.Binds.{none_some, some_is, some_then, cond_some}
-use Rattle.edits.specs.declared.OptionEdit.{OptionEdit}
-use Rattle.edits.specs.declared.OptionEdit.TheVariants.{NoEdit}
-use Rattle.edits.specs.declared.OptionEdit.TheVariants as option_edit
-use Rattle.edits.specs.declared.OptionNumber.{OptionNumber}
-use Rattle.edits.specs.declared.OptionNumber.TheVariants.{NoNumber, Number}
-use Rattle.edits.specs.Edits.{no_edit, edit_in, edits_in, Registered, number_option}
-use Rattle.edits.specs.Read.{target_low, change_by, edit_by, edit_option}
+use Rattle.edits.specs.Edits.{no_edit, edit_in, edits_in, Registered}
+use Rattle.edits.specs.Read.{target_low, change_by, edit_by}
 use Rattle.edits.proofs.Model.{edit_parts, same_edit}
 use Rattle.edits.proofs.Numbers.{is_in, out_append, out_front, each_under, links_under}
 
@@ -97,43 +93,43 @@ module _ (l : List ℕ) where
 record Step (k at : ℕ) (l : List ℕ) (es : List RefEdit) : Type 0 where
   e : RefEdit
   rest : List RefEdit
-  first : edit_of (cut at 27 l) ≡ some e
-  others : edits_from k (at + 27) l ≡ some rest
+  first : edit_of (cut at 27 l) ≡ Some e
+  others : edits_from k (at + 27) l ≡ Some rest
   whole : e ∷ rest ≡ es
 
-step : (k at : ℕ) (l : List ℕ) (es : List RefEdit) → edits_from (suc k) at l ≡ some es → Step k at l es
+step : (k at : ℕ) (l : List ℕ) (es : List RefEdit) → edits_from (suc k) at l ≡ Some es → Step k at l es
 unfolding edits_from
 step k at l es h =
     some_then (edit_of (cut at 27 l)) _ es h λ e p h₁.
     some_then (edits_from k (at + 27) l) _ es h₁ λ rest q h₂.
     record { e = e; rest = rest; first = p; others = q; whole = some_is h₂ }
 
-edits_length : (k at : ℕ) (l : List ℕ) (es : List RefEdit) → edits_from k at l ≡ some es → length es ≡ k
+edits_length : (k at : ℕ) (l : List ℕ) (es : List RefEdit) → edits_from k at l ≡ Some es → length es ≡ k
 unfolding edits_from
 edits_length zero at l es h = ap length (sym (some_is h))
 edits_length (suc k) at l es h =
     let s = step k at l es h in
     ap length (sym s.whole) ∙ ap suc (edits_length k (at + 27) l s.rest s.others)
 
-record_in : (k at : ℕ) (l : List ℕ) (es : List RefEdit) (i : ℕ) → edits_from k at l ≡ some es → i < k
-    → edit_of (cut (at + i * 27) 27 l) ≡ some (get_or es i no_edit)
+record_in : (k at : ℕ) (l : List ℕ) (es : List RefEdit) (i : ℕ) → edits_from k at l ≡ Some es → i < k
+    → edit_of (cut (at + i * 27) 27 l) ≡ Some (get_or es i no_edit)
 record_in zero at l es i h g = absurd (omega arith)
 record_in (suc k) at l es zero h g =
     let s = step k at l es h in
     let q : at + 0 * 27 ≡ at = omega arith in
-    ap (λ (a : ℕ). edit_of (cut a 27 l)) q ∙ s.first ∙ ap (λ (xs : List RefEdit). some (get_or xs 0 no_edit)) s.whole
+    ap (λ (a : ℕ). edit_of (cut a 27 l)) q ∙ s.first ∙ ap (λ (xs : List RefEdit). Some (get_or xs 0 no_edit)) s.whole
 record_in (suc k) at l es (suc i) h g =
     let s = step k at l es h in
     let q : at + suc i * 27 ≡ at + 27 + i * 27 = omega arith in
     ap (λ (a : ℕ). edit_of (cut a 27 l)) q
     ∙ record_in k (at + 27) l s.rest i s.others (omega arith)
-    ∙ ap (λ (xs : List RefEdit). some (get_or xs (suc i) no_edit)) s.whole
+    ∙ ap (λ (xs : List RefEdit). Some (get_or xs (suc i) no_edit)) s.whole
 
 -- ---- a list that is well formed
 
 pub record Formed (l : List ℕ) : Type 0 where
   pub frame : Framed l
-  pub read : edits_from (byte_at 3 l) 4 l ≡ some (edits_in l)
+  pub read : edits_from (byte_at 3 l) 4 l ≡ Some (edits_in l)
   pub count : length (edits_in l) ≡ byte_at 3 l
 
 pub formed : (l : List ℕ) → is_some (edits_of l) ≡ true → Formed l
@@ -142,17 +138,14 @@ formed l h =
     let i = cond_some (is_framed l) (edits_from (byte_at 3 l) 4 l) _ (is_in (edits_of l) [] h) in
     record { frame = framed l i.0; read = i.1; count = edits_length _ _ l _ i.1 }
 
-pub not_framed : (l : List ℕ) (t : Bool) → t ≡ is_framed l → not t ≡ true → false ≡ is_some (edits_of l)
+pub not_framed : (l : List ℕ) (t : Bool) → t ≡ is_framed l → t ≡ false → t ≡ is_some (edits_of l)
 unfolding edits_of
-not_framed l t e h = rw (← e, not-true t h)
+not_framed l t e h = rw (sym e ∙ h) h
 
-pub is_framed_lem : (l : List ℕ) (t : Bool) → t ≡ is_framed l → not t ≡ false → is_framed l ≡ true
-is_framed_lem l t e h = sym e ∙ not-false t h
-
-pub are_edits : (l : List ℕ) (t b : Bool) → t ≡ is_framed l → not t ≡ false
-    → b ≡ is_some (edits_from (byte_at 3 l) 4 l) → b ≡ is_some (edits_of l)
+pub are_edits : (l : List ℕ) (t b : Bool) → t ≡ is_framed l → t ≡ true → b ≡ is_some (edits_from (byte_at 3 l) 4 l)
+    → b ≡ is_some (edits_of l)
 unfolding edits_of
-are_edits l t b e h q = rw (is_framed_lem l t e h) q
+are_edits l t b e h q = rw (sym e ∙ h) q
 
 pub counted : (l : List ℕ) (n : ℕ) → is_some (edits_of l) ≡ true → n ≡ byte_at 3 l → (n ≡ length (edits_in l)) × (n ≤ 32)
 counted l n h e = let f = formed l h in (e ∙ sym f.count, omega arith)
@@ -177,15 +170,15 @@ module _ (l : List ℕ) (i : ℕ) (h : is_some (edits_of l) ≡ true) (g : i < l
   pub record_room : 4 + i * 27 + 27 ≤ length l
   record_room = let f = formed l h in omega arith
 
-  pub record_is : edit_of (cut (4 + i * 27) 27 l) ≡ some (get_or (edits_in l) i no_edit)
+  pub record_is : edit_of (cut (4 + i * 27) 27 l) ≡ Some (get_or (edits_in l) i no_edit)
   record_is = let f = formed l h in record_in (byte_at 3 l) 4 l (edits_in l) i f.read (omega arith)
 
-flag_in : (x : ℕ) (b : Bool) → flag_of x ≡ some b → eqb x 1 ≡ b
+flag_in : (x : ℕ) (b : Bool) → flag_of x ≡ Some b → eqb x 1 ≡ b
 flag_in zero b e = some_is e
 flag_in (suc zero) b e = some_is e
 flag_in (suc (suc x)) b e = absurd (none_some e)
 
-deref_in : (r : List ℕ) (e : RefEdit) → edit_of r ≡ some e → eqb (byte_at 1 r) 1 ≡ e.deref
+deref_in : (r : List ℕ) (e : RefEdit) → edit_of r ≡ Some e → eqb (byte_at 1 r) 1 ≡ e.deref
 unfolding edit_by
 deref_in r e h =
     some_then (flag_of (byte_at 1 r)) _ e (sym (edit_parts r) ∙ h) λ deref p h₁.
@@ -204,12 +197,12 @@ lent : (at : ℕ) (l : List ℕ) → take (at + 27 - at) (drop at l) ≡ cut at 
 lent at l = let k : at + 27 - at ≡ 27 = omega arith in ap (λ (n : ℕ). take n (drop at l)) k
 
 -- where every number is registered, a link's has 16 bits
-module _ (l : List ℕ) (i : ℕ) (o : OptionEdit) (u : Registered l) (g : i < length (edits_in l))
-    (e : edit_option o ≡ edit_by target_low (take (4 + i * 27 + 27 - (4 + i * 27)) (drop (4 + i * 27) l))) where
-  registered_is : edit_option o ≡ some (get_or (edits_in l) i no_edit)
+module _ (l : List ℕ) (i : ℕ) (o : Option RefEdit) (u : Registered l) (g : i < length (edits_in l))
+    (e : o ≡ edit_by target_low (take (4 + i * 27 + 27 - (4 + i * 27)) (drop (4 + i * 27) l))) where
+  registered_is : o ≡ Some (get_or (edits_in l) i no_edit)
   registered_is =
       let r : List ℕ = cut (4 + i * 27) 27 l in
-      let x : edit_of r ≡ some (get_or (edits_in l) i no_edit) = record_is l i u.formed g in
+      let x : edit_of r ≡ Some (get_or (edits_in l) i no_edit) = record_is l i u.formed g in
       let k = links_under u.names r _ x (each_under u.names (edits_in l) i u.all g) in
       let f : u.names ≤ 256 = u.few in
       e
@@ -217,13 +210,32 @@ module _ (l : List ℕ) (i : ℕ) (o : OptionEdit) (u : Registered l) (g : i < l
       ∙ same_edit r (λ q. omega (arith, k.0 q)) (λ q. omega (arith, k.1 q))
       ∙ x
 
-  pub edit_is : (x : RefEdit) → o ≡ option_edit.Edit x → x ≡ get_or (edits_in l) i no_edit
-  edit_is x p = some_is (ap edit_option (sym p) ∙ registered_is)
-
-  pub edit_not : (x : RefEdit) → o ≡ NoEdit → x ≡ get_or (edits_in l) i no_edit
-  edit_not x p = absurd (none_some (ap edit_option (sym p) ∙ registered_is))
+  pub registered_or : (d r : RefEdit) → r ≡ unwrap_or o d → r ≡ get_or (edits_in l) i no_edit
+  registered_or d r p = p ∙ ap (λ (x : Option RefEdit). unwrap_or x d) registered_is
 
 -- ---- the loops
+
+-- what is left of the list begins at a place up to which P holds
+pub record Rest (P : ℕ → Type 0) (l rest : List ℕ) : Type 0 where
+  pub at : ℕ
+  pub is : rest ≡ drop at l
+  pub there : P at
+
+-- the record that is next, and what is left behind it
+module _ (l rest r t : List ℕ) (at : ℕ) (is : rest ≡ drop at l) (parts : rest ≡ r ++ t) (size : length r ≡ 27) where
+  front : r ≡ cut at 27 l
+  front = sym (take_all 27 r (omega arith)) ∙ sym (cut_left 0 27 r t (omega arith)) ∙ ap (take 27) (sym parts ∙ is)
+
+  behind : t ≡ drop (at + 27) l
+  behind =
+      sym (front_rest rest r t parts) ∙ ap (λ (n : ℕ). drop n rest) size ∙ ap (drop 27) is ∙ drop-drop 27 at l
+
+  room : at < length l
+  room = omega (arith, ap length is, ap length parts, length-drop at l, length-append r t)
+
+-- the records begin at place 4
+rest_start : (P : ℕ → Type 0) (l rest : List ℕ) → rest ≡ take (length l - 4) (drop 4 l) → P 4 → Rest P l rest
+rest_start P l rest e p = record { at = 4; is = e ∙ take_rest l 4; there = p }
 
 -- what is left to be read comes to what is asked
 pub record Left (l : List ℕ) (at : ℕ) : Type 0 where
@@ -231,54 +243,66 @@ pub record Left (l : List ℕ) (at : ℕ) : Type 0 where
   pub size : at + left * 27 ≡ length l
   pub same : is_some (edits_from left at l) ≡ is_some (edits_from (byte_at 3 l) 4 l)
 
-one_more : (o : Option RefEdit) (p : Option (List RefEdit)) → is_some (o >>= λ e. p >>= λ es. some (e ∷ es)) ≡ (is_some o && is_some p)
-one_more none p = refl
-one_more (some e) none = refl
-one_more (some e) (some es) = refl
+one_more : (o : Option RefEdit) (p : Option (List RefEdit)) → is_some (o >>= λ e. p >>= λ es. Some (e ∷ es)) ≡ (is_some o && is_some p)
+one_more None p = refl
+one_more (Some e) None = refl
+one_more (Some e) (Some es) = refl
 
-pub left_start : (l : List ℕ) → is_framed l ≡ true → Left l 4
-left_start l h = record { left = byte_at 3 l; size = (framed l h).size; same = refl }
+pub left_start : (l rest : List ℕ) → is_framed l ≡ true → rest ≡ take (length l - 4) (drop 4 l) → Rest (Left l) l rest
+left_start l rest h e = rest_start (Left l) l rest e (record { left = byte_at 3 l; size = (framed l h).size; same = refl })
+
+pub records_room : (l : List ℕ) → is_framed l ≡ true → 4 ≤ length l
+records_room l h = omega (arith, (framed l h).size)
 
 -- the one that is next, and those behind it
-record Next (t : Bool) (l : List ℕ) (at : ℕ) : Type 0 where
+record Next (b : Bool) (l : List ℕ) (at : ℕ) : Type 0 where
   left : ℕ
   size : at + 27 + left * 27 ≡ length l
-  same : (t && is_some (edits_from left (at + 27) l)) ≡ is_some (edits_from (byte_at 3 l) 4 l)
+  same : (b && is_some (edits_from left (at + 27) l)) ≡ is_some (edits_from (byte_at 3 l) 4 l)
 
-module _ (l : List ℕ) (at : ℕ) (v : Left l at) (h : at < length l) (t : Bool) (e : t ≡ is_some (edit_of (take (at + 27 - at) (drop at l)))) where
-  next : Next t l at
-  unfolding edits_from
-  next = go v.left v.size v.same
-    where
-      go : (k : ℕ) → at + k * 27 ≡ length l → is_some (edits_from k at l) ≡ is_some (edits_from (byte_at 3 l) 4 l) → Next t l at
-      go zero s q = absurd (omega arith)
-      go (suc k) s q = record {
-        left = k;
-        size = omega arith;
-        same =
-            rw (e, lent at l) (sym (one_more (edit_of (cut at 27 l)) (edits_from k (at + 27) l)) ∙ q);
+next : (l : List ℕ) (at : ℕ) (v : Left l at) (h : at < length l) (b : Bool) → b ≡ is_some (edit_of (cut at 27 l)) → Next b l at
+unfolding edits_from
+next l at v h b e = go v.left v.size v.same
+  where
+    go : (k : ℕ) → at + k * 27 ≡ length l → is_some (edits_from k at l) ≡ is_some (edits_from (byte_at 3 l) 4 l) → Next b l at
+    go zero s q = absurd (omega arith)
+    go (suc k) s q = record {
+      left = k;
+      size = omega arith;
+      same = rw (e) (sym (one_more (edit_of (cut at 27 l)) (edits_from k (at + 27) l)) ∙ q);
+    }
+
+module _ (l rest r t : List ℕ) (v : Rest (Left l) l rest) (parts : rest ≡ r ++ t) (size : length r ≡ 27) (b : Bool)
+    (e : b ≡ is_some (edit_of r)) where
+  next_is : Next b l v.at
+  next_is =
+      next l v.at v.there (room l rest r t v.at v.is parts size) b
+      (e ∙ ap (λ (x : List ℕ). is_some (edit_of x)) (front l rest r t v.at v.is parts size))
+
+  pub left_more : b ≡ true → Rest (Left l) l t
+  left_more p =
+      let n : Next true l v.at = subst (λ (b : Bool). Next b l v.at) p next_is in
+      record {
+        at = v.at + 27;
+        is = behind l rest r t v.at v.is parts size;
+        there = record { left = n.left; size = n.size; same = n.same };
       }
 
-  pub left_more : t ≡ true → Left l (at + 27)
-  left_more p =
-      let n : Next true l at = subst (λ (b : Bool). Next b l at) p next in
-      record { left = n.left; size = n.size; same = n.same }
+  pub left_fails : b ≡ false → false ≡ is_some (edits_from (byte_at 3 l) 4 l)
+  left_fails p = (subst (λ (b : Bool). Next b l v.at) p next_is).same
 
-  pub left_fails : t ≡ false → false ≡ is_some (edits_from (byte_at 3 l) 4 l)
-  left_fails p = (subst (λ (b : Bool). Next b l at) p next).same
-
-pub left_end : (l : List ℕ) (at : ℕ) → Left l at → length l ≤ at → true ≡ is_some (edits_from (byte_at 3 l) 4 l)
+pub left_end : (l rest : List ℕ) → Rest (Left l) l rest → length rest < 27 → true ≡ is_some (edits_from (byte_at 3 l) 4 l)
 unfolding edits_from
-left_end l at v h =
-    let z : v.left ≡ 0 = omega arith in
-    ap (λ (k : ℕ). is_some (edits_from k at l)) (sym z) ∙ v.same
+left_end l rest v h =
+    let z : v.there.left ≡ 0 = omega (arith, ap length v.is, length-drop v.at l) in
+    ap (λ (k : ℕ). is_some (edits_from k v.at l)) (sym z) ∙ v.there.same
 
 -- no number is out yet: what is left has the list's first
 pub record Ahead (n : ℕ) (l : List ℕ) (at : ℕ) : Type 0 where
   pub left : ℕ
   pub size : at + left * 27 ≡ length l
   pub edits : List RefEdit
-  pub read : edits_from left at l ≡ some edits
+  pub read : edits_from left at l ≡ Some edits
   pub same : first_out n (collect numbers_of edits) ≡ first_out n (collect numbers_of (edits_in l))
 
 -- the edit that is next, and those behind it
@@ -286,65 +310,78 @@ record Turn (n : ℕ) (l : List ℕ) (at : ℕ) : Type 0 where
   left : ℕ
   size : at + 27 + left * 27 ≡ length l
   e : RefEdit
-  first : edit_of (take (at + 27 - at) (drop at l)) ≡ some e
+  first : edit_of (cut at 27 l) ≡ Some e
   rest : List RefEdit
-  others : edits_from left (at + 27) l ≡ some rest
+  others : edits_from left (at + 27) l ≡ Some rest
   same : first_out n (numbers_of e ++ collect numbers_of rest) ≡ first_out n (collect numbers_of (edits_in l))
 
-pub ahead_start : (n : ℕ) (l : List ℕ) → is_some (edits_of l) ≡ true → Ahead n l 4
-ahead_start n l h =
+pub ahead_start : (n : ℕ) (l rest : List ℕ) → is_some (edits_of l) ≡ true → rest ≡ take (length l - 4) (drop 4 l)
+    → Rest (Ahead n l) l rest
+ahead_start n l rest h e =
     let f = formed l h in
-    record { left = byte_at 3 l; size = f.frame.size; edits = edits_in l; read = f.read; same = refl }
+    rest_start (Ahead n l) l rest e
+    (record { left = byte_at 3 l; size = f.frame.size; edits = edits_in l; read = f.read; same = refl })
 
-module _ (n : ℕ) (l : List ℕ) (at : ℕ) (v : Ahead n l at) (h : at < length l) where
-  turn : Turn n l at
-  turn = go v.left v.size v.read
-    where
-      go : (k : ℕ) → at + k * 27 ≡ length l → edits_from k at l ≡ some v.edits → Turn n l at
-      go zero s r = absurd (omega arith)
-      go (suc k) s r =
-          let q = step k at l v.edits r in
-          record {
-            left = k;
-            size = omega arith;
-            e = q.e;
-            first = ap edit_of (lent at l) ∙ q.first;
-            rest = q.rest;
-            others = q.others;
-            same = ap (λ (es : List RefEdit). first_out n (collect numbers_of es)) q.whole ∙ v.same;
-          }
+pub edits_room : (l : List ℕ) → is_some (edits_of l) ≡ true → 4 ≤ length l
+edits_room l h = omega (arith, (formed l h).frame.size)
 
-  pub ahead_part : (length (take (at + 27 - at) (drop at l)) ≡ 27) × (is_some (edit_of (take (at + 27 - at) (drop at l))) ≡ true)
-  ahead_part =
-      let t = turn in
-      (ap length (lent at l) ∙ length_cut at 27 l (omega arith), ap is_some t.first)
-
-  module _ (o : OptionNumber) (e : number_option o ≡ first_out n (numbers_of (edit_in (take (at + 27 - at) (drop at l))))) where
-    out_is : number_option o ≡ first_out n (numbers_of turn.e)
-    unfolding edit_in
-    out_is = e ∙ ap (λ (x : Option RefEdit). first_out n (numbers_of (Option.get_or x no_edit))) turn.first
-
-    pub ahead_more : o ≡ NoNumber → Ahead n l (at + 27)
-    ahead_more p =
-        let t = turn in
+turn : (n : ℕ) (l : List ℕ) (at : ℕ) (v : Ahead n l at) → at < length l → Turn n l at
+turn n l at v h = go v.left v.size v.read
+  where
+    go : (k : ℕ) → at + k * 27 ≡ length l → edits_from k at l ≡ Some v.edits → Turn n l at
+    go zero s r = absurd (omega arith)
+    go (suc k) s r =
+        let q = step k at l v.edits r in
         record {
-          left = t.left;
-          size = t.size;
-          edits = t.rest;
-          read = t.others;
-          same = sym (out_append n (numbers_of t.e) (collect numbers_of t.rest) (sym out_is ∙ ap number_option p)) ∙ t.same;
+          left = k;
+          size = omega arith;
+          e = q.e;
+          first = q.first;
+          rest = q.rest;
+          others = q.others;
+          same = ap (λ (es : List RefEdit). first_out n (collect numbers_of es)) q.whole ∙ v.same;
         }
 
-    pub ahead_out : (x : ℕ) → o ≡ Number x → number_option o ≡ first_out n (collect numbers_of (edits_in l))
-    ahead_out x p =
-        let t = turn in
-        ap number_option p
-        ∙ sym (out_front n (numbers_of t.e) (collect numbers_of t.rest) x (sym out_is ∙ ap number_option p))
-        ∙ t.same
+module _ (n : ℕ) (l rest r t : List ℕ) (v : Rest (Ahead n l) l rest) (parts : rest ≡ r ++ t) (size : length r ≡ 27) where
+  turn_is : Turn n l v.at
+  turn_is = turn n l v.at v.there (room l rest r t v.at v.is parts size)
 
-pub ahead_end : (n : ℕ) (l : List ℕ) (at : ℕ) → Ahead n l at → length l ≤ at → none ≡ first_out n (collect numbers_of (edits_in l))
+  read_is : edit_of r ≡ Some (turn_is.e)
+  read_is = ap edit_of (front l rest r t v.at v.is parts size) ∙ turn_is.first
+
+  pub ahead_part : is_some (edit_of r) ≡ true
+  ahead_part = ap is_some read_is
+
+  module _ (o : Option ℕ) (e : o ≡ first_out n (numbers_of (edit_in r))) where
+    out_is : o ≡ first_out n (numbers_of turn_is.e)
+    unfolding edit_in
+    out_is = e ∙ ap (λ (x : Option RefEdit). first_out n (numbers_of (unwrap_or x no_edit))) read_is
+
+    pub ahead_more : o ≡ None → Rest (Ahead n l) l t
+    ahead_more p =
+        let q = turn_is in
+        record {
+          at = v.at + 27;
+          is = behind l rest r t v.at v.is parts size;
+          there = record {
+            left = q.left;
+            size = q.size;
+            edits = q.rest;
+            read = q.others;
+            same = sym (out_append n (numbers_of q.e) (collect numbers_of q.rest) (sym out_is ∙ p)) ∙ q.same;
+          };
+        }
+
+    pub ahead_out : (x : ℕ) → o ≡ Some x → Some x ≡ first_out n (collect numbers_of (edits_in l))
+    ahead_out x p =
+        let q = turn_is in
+        sym (out_front n (numbers_of q.e) (collect numbers_of q.rest) x (sym out_is ∙ p)) ∙ q.same
+
+pub ahead_end : (n : ℕ) (l rest : List ℕ) → Rest (Ahead n l) l rest → length rest < 27
+    → None ≡ first_out n (collect numbers_of (edits_in l))
 unfolding edits_from
-ahead_end n l at v h =
-    let z : v.left ≡ 0 = omega arith in
-    let e : some [] ≡ some v.edits = ap (λ (k : ℕ). edits_from k at l) (sym z) ∙ v.read in
-    ap (λ (es : List RefEdit). first_out n (collect numbers_of es)) (some_is e) ∙ v.same
+ahead_end n l rest v h =
+    let a = v.there in
+    let z : a.left ≡ 0 = omega (arith, ap length v.is, length-drop v.at l) in
+    let e : Some [] ≡ Some a.edits = ap (λ (k : ℕ). edits_from k v.at l) (sym z) ∙ a.read in
+    ap (λ (es : List RefEdit). first_out n (collect numbers_of es)) (some_is e) ∙ a.same

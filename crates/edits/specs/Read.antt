@@ -1,49 +1,40 @@
 -- A record of the edit list, read by its 27 bytes. A link's number is read by its low 16 bits: whether a record is well formed
 -- does not depend on it, and once every number is known to be registered it is the number.
-use Rattle.std.specs.Prelude.{cond, List, ℕ, zero, suc, ◌+◌, ◌%◌, eqb}
-use Rattle.std.proofs.Math.Option.{Option, none, some}
+use Rattle.target.specs.declared.Target.{Target}
+use Rattle.std.specs.Prelude.{cond, List, ℕ, zero, suc, ◌+◌, ◌%◌, eqb, Option, Some, None}
 use Rattle.word.specs.Be.{cut, val}
 use Rattle.target.specs.declared.Target.TheVariants.{Object, Symbolic}
-use Rattle.target.specs.declared.OptionTarget.{OptionTarget}
-use Rattle.target.specs.declared.OptionTarget.TheVariants.{Absent, Present}
 use Rattle.transaction.specs.declared.PreviousValue.{PreviousValue}
 use Rattle.transaction.specs.declared.Change.{Change}
 use Rattle.transaction.specs.declared.RefEdit.{RefEdit}
-use Rattle.transaction.specs.Fields.{ref_log_of, ref_log_option, previous_of, previous_option}
+use Rattle.transaction.specs.Fields.{ref_log_of, previous_of}
 use Rattle.model.specs.EditList.{◌>>=◌, flag_of, change_of, byte_at}
-use Rattle.edits.specs.declared.OptionEdit.{OptionEdit}
-use Rattle.edits.specs.declared.OptionEdit.TheVariants.{NoEdit}
-use Rattle.edits.specs.declared.OptionEdit.TheVariants as option_edit
 
-abbrev pub target_low : ℕ → ℕ → Option OptionTarget
-target_low zero n = cond (eqb n 0) (some Absent) none
-target_low (suc zero) n = cond (eqb n 0) none (some (Present (Object (record { 0 = n }))))
-target_low (suc (suc zero)) n = some (Present (Symbolic (record { 0 = n % 65536 })))
-target_low (suc (suc (suc k))) n = none
+abbrev pub target_low : ℕ → ℕ → Option (Option Target)
+target_low zero n = cond (eqb n 0) (Some None) None
+target_low (suc zero) n = cond (eqb n 0) None (Some (Some (Object (record { 0 = n }))))
+target_low (suc (suc zero)) n = Some (Some (Symbolic (record { 0 = n % 65536 })))
+target_low (suc (suc (suc k))) n = None
 
 -- the parts of a record, by a reading of targets
-unfoldable pub target_by : (ℕ → ℕ → Option OptionTarget) → ℕ → List ℕ → Option OptionTarget
+unfoldable pub target_by : (ℕ → ℕ → Option (Option Target)) → ℕ → List ℕ → Option (Option Target)
 target_by t a r = t (byte_at a r) (val (cut (a + 1) 8 r))
 
-unfoldable pub expected_by : (ℕ → ℕ → Option OptionTarget) → List ℕ → Option PreviousValue
+unfoldable pub expected_by : (ℕ → ℕ → Option (Option Target)) → List ℕ → Option PreviousValue
 expected_by t r = do
   was ← target_by t 5 r
-  previous_option (previous_of (byte_at 4 r) was)
+  (previous_of (byte_at 4 r) was)
 
-unfoldable pub change_by : (ℕ → ℕ → Option OptionTarget) → List ℕ → Option Change
+unfoldable pub change_by : (ℕ → ℕ → Option (Option Target)) → List ℕ → Option Change
 change_by t r = do
-  log ← ref_log_option (ref_log_of (byte_at 2 r))
+  log ← (ref_log_of (byte_at 2 r))
   force ← flag_of (byte_at 3 r)
   expected ← expected_by t r
   new ← target_by t 14 r
   change_of (byte_at 0 r) log force expected new (val (cut 25 2 r))
 
-unfoldable pub edit_by : (ℕ → ℕ → Option OptionTarget) → List ℕ → Option RefEdit
+unfoldable pub edit_by : (ℕ → ℕ → Option (Option Target)) → List ℕ → Option RefEdit
 edit_by t r = do
   deref ← flag_of (byte_at 1 r)
   change ← change_by t r
-  some (record { change = change; name = record { 0 = val (cut 23 2 r) }; deref = deref })
-
-abbrev pub edit_option : OptionEdit → Option RefEdit
-edit_option NoEdit = none
-edit_option (option_edit.Edit e) = some e
+  Some (record { change = change; name = record { 0 = val (cut 23 2 r) }; deref = deref })

@@ -5,18 +5,13 @@
 ghost use Rattle.std.specs.Prelude.{◌≡◌, true, ◌&&◌, ◌+◌, ◌<◌, ◌≤◌, length, get_or, eqb, leb};
 ghost use Rattle.word.specs.Be.{cut, val};
 ghost use Rattle.word.specs.Codec.{is_some};
-ghost use Rattle.transaction.specs.Fields.{previous_option};
 ghost use Rattle.model.specs.Basic.{collect};
 ghost use Rattle.model.specs.EditList.{byte_at, edit_of, edits_from, is_framed, edits_of, numbers_of, first_out};
-ghost use Rattle.slots.specs.Row.{target_option, change_option};
-ghost use Rattle.edits.specs.Read.{target_low, target_by, expected_by, change_by, edit_by, edit_option};
-ghost use Rattle.edits.specs.Edits.{edit_in, edits_in, no_edit, number_option, Registered};
+ghost use Rattle.edits.specs.Read.{target_low, target_by, expected_by, change_by, edit_by};
+ghost use Rattle.edits.specs.Edits.{edit_in, edits_in, no_edit, Registered};
 
-use slots::{OptionChange, OptionOptionTarget};
-use target::{NameNumber, ObjectNumber, OptionTarget, Target};
-use transaction::{
-    Change, LogChange, OptionPrevious, OptionRefLog, PreviousValue, RefEdit, RefLog,
-};
+use target::{NameNumber, ObjectNumber, Target};
+use transaction::{Change, LogChange, PreviousValue, RefEdit, RefLog};
 
 // What stands where in a list, and in a record of 27 bytes.
 #[derive(Clone, Copy)]
@@ -52,19 +47,6 @@ impl EditList {
     pub const MESSAGE: usize = 25;
 }
 
-#[derive(Clone, Copy)]
-pub enum OptionEdit {
-    NoEdit,
-    Edit(RefEdit),
-}
-
-// A name number that is not registered, with all its bits.
-#[derive(Clone, Copy)]
-pub enum OptionNumber {
-    NoNumber,
-    Number(u64),
-}
-
 // ---- a record
 
 fn byte_at(part: &[u8], at: usize) -> u64
@@ -81,81 +63,68 @@ fn wide(x: u8) -> u64
 }
 
 // A link by the low 16 bits of its number.
-fn target_low(kind: u64, number: u64) -> OptionOptionTarget
-    ensures { target_option result ≡ target_low kind number }
+fn target_low(kind: u64, number: u64) -> Option<Option<Target>>
+    ensures { result ≡ target_low kind number }
 {
-    if kind == OptionTarget::SYMBOLIC {
+    if kind == Target::SYMBOLIC {
         let name = NameNumber((number % 65536) as u16);
-        return OptionOptionTarget::Target(OptionTarget::Present(Target::Symbolic(name)));
+        return Some(Some(Target::Symbolic(name)));
     }
     slots::target_from(kind, number)
 }
 
-fn get_target(part: &[u8], at: usize) -> OptionOptionTarget
+fn get_target(part: &[u8], at: usize) -> Option<Option<Target>>
     requires { (at + 9 ≤ length part.now) × (at < 32) }
-    ensures { target_option result ≡ target_by target_low at part.now }
+    ensures { result ≡ target_by target_low at part.now }
 {
     let kind = byte_at(part, at);
     let number = word::get_at(part, at + 1, 8);
     target_low(kind, number)
 }
 
-fn get_expected(part: &[u8]) -> OptionPrevious
+fn get_expected(part: &[u8]) -> Option<PreviousValue>
     requires { length part.now ≡ 27 }
-    ensures { previous_option result ≡ expected_by target_low part.now }
+    ensures { result ≡ expected_by target_low part.now }
 {
-    let OptionOptionTarget::Target(was) = get_target(part, EditList::EXPECTED_TARGET) else {
-        return OptionPrevious::NoPrevious;
-    };
+    let was = get_target(part, EditList::EXPECTED_TARGET)?;
     PreviousValue::new(byte_at(part, EditList::EXPECTED), was)
 }
 
-fn get_change(part: &[u8]) -> OptionChange
+fn get_change(part: &[u8]) -> Option<Change>
     requires { length part.now ≡ 27 }
-    ensures { change_option result ≡ change_by target_low part.now }
+    ensures { result ≡ change_by target_low part.now }
 {
-    let OptionRefLog::RefLog(log) = RefLog::new(byte_at(part, EditList::LOG)) else {
-        return OptionChange::NoChange;
-    };
+    let log = RefLog::try_from(byte_at(part, EditList::LOG)).ok()?;
     let force = byte_at(part, EditList::FORCE);
     if force > 1 {
-        return OptionChange::NoChange;
+        return None;
     }
-    let OptionPrevious::Previous(expected) = get_expected(part) else {
-        return OptionChange::NoChange;
-    };
-    let OptionOptionTarget::Target(new) = get_target(part, EditList::NEW_TARGET) else {
-        return OptionChange::NoChange;
-    };
+    let expected = get_expected(part)?;
+    let new = get_target(part, EditList::NEW_TARGET)?;
     let kind = byte_at(part, EditList::KIND);
     let message = word::get16_at(part, EditList::MESSAGE);
     slots::change_from(kind, log, force == 1, expected, new, message)
 }
 
 // The edit of a record, if it is well formed.
-fn get_edit(part: &[u8]) -> OptionEdit
+fn get_edit(part: &[u8]) -> Option<RefEdit>
     requires { length part.now ≡ 27 }
-    ensures { edit_option result ≡ edit_by target_low part.now }
+    ensures { result ≡ edit_by target_low part.now }
 {
     let deref = byte_at(part, EditList::DEREF);
     if deref > 1 {
-        return OptionEdit::NoEdit;
+        return None;
     }
-    let OptionChange::Change(change) = get_change(part) else {
-        return OptionEdit::NoEdit;
-    };
+    let change = get_change(part)?;
     let name = word::get16_at(part, EditList::NAME);
-    OptionEdit::Edit(RefEdit::new(change, NameNumber(name), deref == 1))
+    Some(RefEdit::new(change, NameNumber(name), deref == 1))
 }
 
 fn is_edit(part: &[u8]) -> bool
     requires { length part.now ≡ 27 }
     ensures { result ≡ is_some (edit_of part.now) }
 {
-    let OptionEdit::Edit(_) = get_edit(part) else {
-        return false;
-    };
-    true
+    get_edit(part).is_some()
 }
 
 // ---- the list
@@ -185,13 +154,8 @@ fn are_edits(list: &[u8]) -> bool
     requires { is_framed list.now ≡ true }
     ensures { result ≡ is_some (edits_from (byte_at 3 list.now) 4 list.now) }
 {
-    let mut at: usize = EditList::RECORDS;
-    while at < list.len() {
-        let e = at + RefEdit::RECORD;
-        let ok = is_edit(&list[at..e]);
-        if ok {
-            at = e;
-        } else {
+    for record in list[EditList::RECORDS..].chunks_exact(RefEdit::RECORD) {
+        if !is_edit(record) {
             return false;
         }
     }
@@ -202,10 +166,7 @@ fn are_edits(list: &[u8]) -> bool
 pub fn is_list(list: &[u8]) -> bool
     ensures { result ≡ is_some (edits_of list.now) }
 {
-    if !is_framed(list) {
-        return false;
-    }
-    are_edits(list)
+    is_framed(list) && are_edits(list)
 }
 
 pub fn count_edits(list: &[u8]) -> usize
@@ -222,46 +183,39 @@ fn link_out(part: &[u8], at: usize, names: u64) -> bool
     requires { (at + 9 ≤ length part.now) × (at < 32) }
     ensures { result ≡ (eqb (byte_at at part.now) 2 && leb names (val (cut (at + 1) 8 part.now))) }
 {
-    if byte_at(part, at) != OptionTarget::SYMBOLIC {
-        return false;
-    }
-    names <= word::get_at(part, at + 1, 8)
+    byte_at(part, at) == Target::SYMBOLIC && names <= word::get_at(part, at + 1, 8)
 }
 
 // The first name number of a record that is not registered, by place: expected target, new target, name.
-fn number_out(part: &[u8], names: u64) -> OptionNumber
+fn number_out(part: &[u8], names: u64) -> Option<u64>
     requires part_len { length part.now ≡ 27 }
     requires part_value { is_some (edit_of part.now) ≡ true }
-    ensures { number_option result ≡ first_out names (numbers_of (edit_in part.now)) }
+    ensures { result ≡ first_out names (numbers_of (edit_in part.now)) }
 {
     if link_out(part, EditList::EXPECTED_TARGET, names) {
-        return OptionNumber::Number(word::get_at(part, EditList::EXPECTED_TARGET + 1, 8));
+        return Some(word::get_at(part, EditList::EXPECTED_TARGET + 1, 8));
     }
     if link_out(part, EditList::NEW_TARGET, names) {
-        return OptionNumber::Number(word::get_at(part, EditList::NEW_TARGET + 1, 8));
+        return Some(word::get_at(part, EditList::NEW_TARGET + 1, 8));
     }
     let name = word::get_at(part, EditList::NAME, 2);
     if name < names {
-        return OptionNumber::NoNumber;
+        return None;
     }
-    OptionNumber::Number(name)
+    Some(name)
 }
 
 // The first of the list.
-pub fn first_out(list: &[u8], names: u64) -> OptionNumber
+pub fn first_out(list: &[u8], names: u64) -> Option<u64>
     requires { is_some (edits_of list.now) ≡ true }
-    ensures { number_option result ≡ first_out names (collect numbers_of (edits_in list.now)) }
+    ensures { result ≡ first_out names (collect numbers_of (edits_in list.now)) }
 {
-    let mut at: usize = EditList::RECORDS;
-    while at < list.len() {
-        let e = at + RefEdit::RECORD;
-        let out = number_out(&list[at..e], names);
-        match out {
-            OptionNumber::NoNumber => at = e,
-            OptionNumber::Number(_) => return out,
+    for record in list[EditList::RECORDS..].chunks_exact(RefEdit::RECORD) {
+        if let Some(number) = number_out(record, names) {
+            return Some(number);
         }
     }
-    OptionNumber::NoNumber
+    None
 }
 
 // ---- the edits of a list whose numbers are all registered
@@ -283,10 +237,7 @@ pub fn edit_at(list: &[u8], i: usize) -> RefEdit
 {
     let at = EditList::RECORDS + i * RefEdit::RECORD;
     let e = at + RefEdit::RECORD;
-    let OptionEdit::Edit(edit) = get_edit(&list[at..e]) else {
-        return no_edit();
-    };
-    edit
+    get_edit(&list[at..e]).unwrap_or(no_edit())
 }
 
 // What stands past the edits, where nothing reads.

@@ -2,82 +2,113 @@
 // not fit.
 #![tactic(auto)]
 
-ghost use Rattle.std.specs.Prelude.{◌≡◌, ◌+◌, ◌<◌, ◌≤◌, length};
+ghost use Rattle.std.specs.Prelude.{◌≡◌, ◌<◌, ◌≤◌, length};
 ghost use Rattle.region.specs.Layout.{region_size};
 ghost use Rattle.layout.specs.Tables.{limit_of};
 
 use layout::Table;
 use region::Layout;
+use std::{fmt, io};
 
 // ---- the head
 
-// A number of the head that is below the least or above the most.
-fn wrong(what: &[u8], found: u64, least: u64, most: u64) {
-    say::text(what);
-    say::number(b" is ", found);
-    say::number(b", and must be ", least);
-    if least < most {
-        say::number(b" to ", most);
-    }
-    say::end();
+// A number of the head, and its bounds.
+#[derive(Clone, Copy)]
+struct Field {
+    what: &'static str,
+    found: u64,
+    least: u64,
+    most: u64,
 }
 
-// The field of so many bytes at a place.
-fn field(region: &[u8], what: &[u8], at: usize, width: usize, least: u64, most: u64)
-    requires width_in_bounds { at + width ≤ length region.now }
-    requires width_bound { width ≤ 8 }
-{
-    let found = word::get_at(region, at, width);
-    if found < least || found > most {
-        wrong(what, found, least, most);
+// What is wrong with a field that is out of bounds.
+impl fmt::Display for Field {
+    fn fmt<W: fmt::Write>(&self, f: &mut fmt::Formatter<W>) -> fmt::Result {
+        let (what, found, least) = (self.what, self.found, self.least);
+        write!(f, "{what} is {found}, and must be {least}")?;
+        if least < self.most {
+            write!(f, " to {}", self.most)?;
+        }
+        Ok(())
     }
+}
+
+// The fields that are out of bounds.
+fn wrong(rt: &impl Print, fields: &[Field]) -> io::Result<()> {
+    for field in fields {
+        if !(field.least..=field.most).contains(&field.found) {
+            println!(rt; "{field}")?;
+        }
+    }
+    Ok(())
 }
 
 // Version and length of the rest, which other sizes of a region have too.
-pub fn version(region: &[u8])
+pub fn version(rt: &impl Print, region: &[u8]) -> io::Result<()>
     requires { 5 ≤ length region.now }
 {
-    field(region, b"the version", Layout::VERSION_AT, 1, 1, 1);
-    field(
-        region,
-        b"the length of the rest",
-        Layout::REST_AT,
-        4,
-        49544,
-        49544,
-    );
+    let version = Field {
+        what: "the version",
+        found: word::get_at(region, Layout::VERSION_AT, 1),
+        least: Layout::VERSION,
+        most: Layout::VERSION,
+    };
+    let rest = Field {
+        what: "the length of the rest",
+        found: word::get_at(region, Layout::REST_AT, 4),
+        least: Layout::REST,
+        most: Layout::REST,
+    };
+    wrong(rt, &[version, rest])
 }
 
-fn counts(region: &[u8])
+fn counts(rt: &impl Print, region: &[u8]) -> io::Result<()>
     requires { length region.now ≡ region_size }
 {
-    field(region, b"the log setting", Layout::SETTING_AT, 1, 0, 2);
-    field(region, b"the count of names", Layout::NAME_COUNT, 2, 0, 256);
-    field(
-        region,
-        b"the count of lines",
-        Layout::LINE_COUNT,
-        2,
-        0,
-        1024,
-    );
+    let setting = Field {
+        what: "the log setting",
+        found: word::get_at(region, Layout::SETTING_AT, 1),
+        least: 0,
+        most: 2,
+    };
+    let names = Field {
+        what: "the count of names",
+        found: word::get_at(region, Layout::NAME_COUNT, 2),
+        least: 0,
+        most: 256,
+    };
+    let lines = Field {
+        what: "the count of lines",
+        found: word::get_at(region, Layout::LINE_COUNT, 2),
+        least: 0,
+        most: 1024,
+    };
+    wrong(rt, &[setting, names, lines])
 }
 
 // With no mode nothing is prepared, so there are no rows.
-fn rows(region: &[u8])
+fn transaction(rt: &impl Print, region: &[u8]) -> io::Result<()>
     requires { length region.now ≡ region_size }
 {
-    let most = layout::most_rows(word::get_at(region, Layout::MODE_AT, 1)) as u64;
-    field(region, b"the mode", Layout::MODE_AT, 1, 0, 3);
-    field(region, b"the count of rows", Layout::ROW_COUNT, 1, 0, most);
-    field(
-        region,
-        b"the packed table's lock",
-        Layout::PACKED_LOCK,
-        1,
-        0,
-        2,
-    );
+    let mode = Field {
+        what: "the mode",
+        found: word::get_at(region, Layout::MODE_AT, 1),
+        least: 0,
+        most: 3,
+    };
+    let rows = Field {
+        what: "the count of rows",
+        found: word::get_at(region, Layout::ROW_COUNT, 1),
+        least: 0,
+        most: layout::most_rows(mode.found) as u64,
+    };
+    let lock = Field {
+        what: "the packed table's lock",
+        found: word::get_at(region, Layout::PACKED_LOCK, 1),
+        least: 0,
+        most: 2,
+    };
+    wrong(rt, &[mode, rows, lock])
 }
 
 // ---- the tables
@@ -89,79 +120,60 @@ fn fits(region: &[u8], table: Table, i: usize, used: bool) -> bool
 {
     let width = table.width();
     let at = table.base() + i * width;
-    if used {
-        return layout::slots_ok(region, table, width, 1, 1, at);
-    }
-    layout::slots_ok(region, table, width, 1, 0, at)
+    layout::slots_ok(region, table, width, 1, usize::from(used), at)
 }
 
 // The first slot that does not fit, where n are in use.
-fn first_bad(region: &[u8], table: Table, n: usize) -> usize
+fn first_bad(region: &[u8], table: Table, n: usize) -> Option<usize>
     requires { length region.now ≡ region_size }
 {
-    let limit = table.limit();
-    let mut i: usize = 0;
-    while i < limit {
-        let ok = fits(region, table, i, i < n);
-        if ok {
-            i += 1;
-        } else {
-            return i;
+    for i in 0..table.limit() {
+        if !fits(region, table, i, i < n) {
+            return Some(i);
         }
     }
-    i
+    None
 }
 
-fn slot(region: &[u8], table: Table, n: usize)
-    requires { length region.now ≡ region_size }
-{
-    let i = first_bad(region, table, n);
-    say::number(b", slot ", i as u64);
-    if i < n {
-        say::text(b" does not fit\n");
-    } else {
-        say::text(b" is past the count, and not all zeros\n");
-    }
-}
-
-fn table(region: &[u8], what: &[u8], table: Table, n: usize)
+// A table whose count is out of bounds is passed over.
+fn table(rt: &impl Print, region: &[u8], what: &str, table: Table, n: usize) -> io::Result<()>
     requires { length region.now ≡ region_size }
 {
     if n > table.limit() {
-        return;
+        return Ok(());
     }
-    if layout::table_ok(region, table, n) {
-        return;
+    match first_bad(region, table, n) {
+        None => Ok(()),
+        Some(i) if i < n => println!(rt; "{what}, slot {i} does not fit"),
+        Some(i) => println!(rt; "{what}, slot {i} is past the count, and not all zeros"),
     }
-    say::text(what);
-    slot(region, table, n);
 }
 
-fn of_names(region: &[u8])
+fn tables(rt: &impl Print, region: &[u8]) -> io::Result<()>
     requires { length region.now ≡ region_size }
 {
     let names = word::get_at(region, Layout::NAME_COUNT, 2) as usize;
-    table(region, b"names", Table::Names, names);
-    table(region, b"loose values", Table::Looses, names);
-    table(region, b"packed values", Table::Packeds, names);
-    table(region, b"locks", Table::Locks, names);
-}
-
-fn of_rows(region: &[u8])
-    requires { length region.now ≡ region_size }
-{
     let rows = word::get_at(region, Layout::ROW_COUNT, 1) as usize;
-    table(region, b"rows", Table::Rows, rows);
     let lines = word::get_at(region, Layout::LINE_COUNT, 2) as usize;
-    table(region, b"lines", Table::Lines, lines);
+    let tables = [
+        ("names", Table::Names, names),
+        ("loose values", Table::Looses, names),
+        ("packed values", Table::Packeds, names),
+        ("locks", Table::Locks, names),
+        ("rows", Table::Rows, rows),
+        ("lines", Table::Lines, lines),
+    ];
+    for (what, kind, n) in tables {
+        table(rt, region, what, kind, n)?;
+    }
+    Ok(())
 }
 
-pub fn all(region: &[u8])
+pub fn all(rt: &impl Print, region: &[u8]) -> io::Result<()>
     requires { length region.now ≡ region_size }
 {
-    version(region);
-    counts(region);
-    rows(region);
-    of_names(region);
-    of_rows(region);
+    version(rt, region)?;
+    counts(rt, region)?;
+    transaction(rt, region)?;
+    tables(rt, region)
 }

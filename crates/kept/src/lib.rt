@@ -5,7 +5,7 @@
 ghost use Rattle.std.specs.Prelude.{◌≡◌, true, ◌&&◌, cond, ◌<◌, ◌≤◌, length, set};
 ghost use Rattle.word.specs.Flags.{Flags, nowhere};
 ghost use Rattle.model.specs.Basic.{any, below};
-ghost use Rattle.model.specs.Store.{Entry, count, rows_in, mode_in, is_lock, is_packed};
+ghost use Rattle.model.specs.Store.{Entry, count, rows_in, mode_in, is_packed};
 ghost use Rattle.model.specs.Rows.{name_in, row_at, packs_updates, counts_as_update, opens, keeps_lock};
 ghost use Rattle.model.specs.Due.{unsigned, due_line, due_lines};
 ghost use Rattle.model.specs.Fine.{kept_for, fine_lock, fine_packed_lock, fine_locks, fine_room};
@@ -13,8 +13,8 @@ ghost use Rattle.region.specs.Region.{view, Laid};
 ghost use Rattle.rows.specs.Due.{lined};
 ghost use Rattle.kept.specs.Counting.{counting};
 
-use model::{Line, Lock, OptionLine, Packed};
-use target::NameNumber;
+use model::{Line, Lock};
+use target::{NameNumber, ObjectNumber};
 use transaction::{Edit, PackedRefs};
 
 // ---- R2
@@ -24,49 +24,37 @@ fn is_counting(region: &[u8], update: bool, row: Edit) -> bool
     ensures { result ≡ counting update (view region.now) row }
 {
     if update {
-        return rows::counts_as_update(region, row);
+        rows::counts_as_update(region, row)
+    } else {
+        rows::counts_row(region, row)
     }
-    rows::counts_row(region, row)
 }
 
 pub fn any_counting(region: &[u8], update: bool) -> bool
     requires { Laid region.now }
     ensures { result ≡ any (counting update (view region.now)) (rows_in (view region.now).prepared) }
 {
-    let rows = region::count_rows(region);
-    let mut i: usize = 0;
-    while i < rows {
-        let yes = is_counting(region, update, region::row_at(region, i));
-        if yes {
+    for i in 0..region::count_rows(region) {
+        if is_counting(region, update, region::row_at(region, i)) {
             return true;
-        } else {
-            i += 1;
         }
     }
     false
 }
 
-pub fn is_packed(v: Packed) -> bool
+pub fn is_packed(v: Option<ObjectNumber>) -> bool
     ensures { result ≡ is_packed v }
 {
-    match v {
-        Packed::None => false,
-        Packed::Object(_) => true,
-    }
+    v.is_some()
 }
 
 fn any_packed(region: &[u8]) -> bool
     requires { Laid region.now }
     ensures { result ≡ any (λ (e : Entry). is_packed e.packed) (view region.now).entries }
 {
-    let count = region::count_names(region);
-    let mut n: usize = 0;
-    while n < count {
-        let yes = is_packed(region::packed_at(region, NameNumber::at(n)));
-        if yes {
+    for n in 0..region::count_names(region) {
+        if is_packed(region::packed_at(region, NameNumber::at(n))) {
             return true;
-        } else {
-            n += 1;
         }
     }
     false
@@ -77,25 +65,16 @@ fn packs_update(region: &[u8]) -> bool
     requires { Laid region.now }
     ensures { result ≡ (packs_updates (mode_in (view region.now).prepared) && any (counts_as_update (view region.now)) (rows_in (view region.now).prepared)) }
 {
-    let mode = region::mode(region);
-    if mode.number() < 2 {
-        return false;
-    }
-    any_counting(region, true)
+    region::mode(region) != PackedRefs::DeletionsOnly && any_counting(region, true)
 }
 
 // R2: whether the packed table is opened.
+#[tactic(auto, unfolding(model::specs::Rows::opens))]
 pub fn opens_table(region: &[u8]) -> bool
     requires { Laid region.now }
     ensures { result ≡ opens (view region.now) (mode_in (view region.now).prepared) (rows_in (view region.now).prepared) }
 {
-    if !any_counting(region, false) {
-        return false;
-    }
-    if packs_update(region) {
-        return true;
-    }
-    any_packed(region)
+    any_counting(region, false) && (packs_update(region) || any_packed(region))
 }
 
 // ---- R4: a lock is ours exactly if some row keeps it
@@ -107,12 +86,9 @@ fn flag_row(region: &[u8], mode: PackedRefs, i: usize, flags: &mut [bool])
     ensures { flags.new ≡ cond (keeps_lock (view region.now) mode (row_at (rows_in (view region.now).prepared) i)) (set flags.old (name_in (row_at (rows_in (view region.now).prepared) i)).0 true) flags.old }
 {
     let row = region::row_at(region, i);
-    if !rows::keeps_lock(region, mode, row) {
-        return;
+    if rows::keeps_lock(region, mode, row) {
+        word::raise(flags, row.update.name.place());
     }
-    let update = row.update;
-    let name = update.name;
-    word::raise(flags, name.place());
 }
 
 // The flags of the names whose lock some row keeps, in one pass.
@@ -122,33 +98,20 @@ fn flag_rows(region: &[u8], flags: &mut [bool])
     ensures { Flags (kept_for (view region.now)) flags.new }
 {
     let mode = region::mode(region);
-    let rows = region::count_rows(region);
-    let mut i: usize = 0;
-    while i < rows {
+    for i in 0..region::count_rows(region) {
         flag_row(region, mode, i, flags);
-        i += 1;
     }
 }
 
-fn is_ours(lock: Lock) -> bool
-    ensures { result ≡ is_lock Lock.Ours lock }
-{
-    match lock {
-        Lock::Free => false,
-        Lock::Foreign => false,
-        Lock::Ours => true,
-    }
-}
-
+#[tactic(auto, unfolding(model::specs::Fine::fine_lock))]
 fn lock_fine(region: &[u8], flags: &[bool], n: NameNumber) -> bool
     requires laid { Laid region.now }
     requires flags { Flags (kept_for (view region.now)) flags.now }
     requires n_bound { n.0 < count (view region.now) }
     ensures { result ≡ fine_lock (view region.now) n.0 }
 {
-    let ours = is_ours(region::lock_at(region, n));
-    let kept = flags[n.place()];
-    ours == kept
+    let ours = region::lock_at(region, n) == Lock::Ours;
+    ours == flags[n.place()]
 }
 
 fn flagged_locks_fine(region: &[u8], flags: &[bool]) -> bool
@@ -156,13 +119,8 @@ fn flagged_locks_fine(region: &[u8], flags: &[bool]) -> bool
     requires flags { Flags (kept_for (view region.now)) flags.now }
     ensures { result ≡ below (count (view region.now)) (fine_lock (view region.now)) }
 {
-    let count = region::count_names(region);
-    let mut n: usize = 0;
-    while n < count {
-        let ok = lock_fine(region, flags, NameNumber::at(n));
-        if ok {
-            n += 1;
-        } else {
+    for n in 0..region::count_names(region) {
+        if !lock_fine(region, flags, NameNumber::at(n)) {
             return false;
         }
     }
@@ -183,19 +141,16 @@ fn packed_lock_fine(region: &[u8]) -> bool
     requires { Laid region.now }
     ensures { result ≡ fine_packed_lock (view region.now) }
 {
-    let ours = is_ours(region::packed_lock(region));
-    let opened = opens_table(region);
-    ours == opened
+    let ours = region::packed_lock(region) == Lock::Ours;
+    ours == opens_table(region)
 }
 
+#[tactic(auto, unfolding(model::specs::Fine::fine_locks))]
 pub fn locks_fine(region: &[u8]) -> bool
     requires { Laid region.now }
     ensures { result ≡ fine_locks (view region.now) }
 {
-    if !name_locks_fine(region) {
-        return false;
-    }
-    packed_lock_fine(region)
+    name_locks_fine(region) && packed_lock_fine(region)
 }
 
 // ---- room for the lines that are due
@@ -205,13 +160,11 @@ fn count_due_row(region: &[u8], flags: &[bool], row: Edit) -> usize
     requires flags { Flags (lined (view region.now)) flags.now }
     ensures { (result ≡ length (due_line unsigned (view region.now) row)) × (result ≤ 1) }
 {
-    let update = row.update;
-    let name = update.name;
-    let has = rows::is_lined(region, flags, name);
-    let OptionLine::Line(_) = rows::due_line(region, has, 0, row) else {
-        return 0;
-    };
-    1
+    let has = rows::is_lined(region, flags, row.update.name);
+    match rows::due_line(region, has, 0, row) {
+        None => 0,
+        Some(_) => 1,
+    }
 }
 
 fn count_flagged(region: &[u8], flags: &[bool]) -> usize
@@ -219,12 +172,9 @@ fn count_flagged(region: &[u8], flags: &[bool]) -> usize
     requires flags { Flags (lined (view region.now)) flags.now }
     ensures { (result ≡ length (due_lines (view region.now) (rows_in (view region.now).prepared))) × (result ≤ length (rows_in (view region.now).prepared)) }
 {
-    let rows = region::count_rows(region);
     let mut due: usize = 0;
-    let mut i: usize = 0;
-    while i < rows {
+    for i in 0..region::count_rows(region) {
         due += count_due_row(region, flags, region::row_at(region, i));
-        i += 1;
     }
     due
 }
@@ -240,6 +190,7 @@ pub fn count_due(region: &[u8]) -> usize
 }
 
 // Log lines and due lines together are at most 1,024.
+#[tactic(auto, unfolding(model::specs::Fine::fine_room))]
 pub fn room_fine(region: &[u8]) -> bool
     requires { Laid region.now }
     ensures { result ≡ fine_room (view region.now) }

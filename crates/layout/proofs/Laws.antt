@@ -2,7 +2,6 @@
 use mathlib.Core.Path.{◌≡◌, refl, sym, ap, ap₂, ◌∙◌}
 use mathlib.Core.Bool.{Bool, true, false, not, ◌&&◌, cond, and-true}
 use mathlib.Core.List.{List, [], ◌∷◌, ◌++◌}
-use mathlib.Core.Option.{Option}
 use Prim.Native.Nat.{ℕ, ◌+◌, ◌-◌, ◌*◌, ◌<◌, ◌≤◌}
 use native.Mathlib.Nat.{mul-le-mul_right}
 use native.Mathlib.Omega.{arith}
@@ -13,24 +12,13 @@ use mir.Syntax.{w8, w64}
 use mir.Val.{Fits}
 use borrow.Author.Tests.{lt-leb, le-leb, leb-true, eq-eqb, ne_eqb, not-true, not-false}
 use Rattle.word.specs.Be.{cut, val}
-use Rattle.word.specs.Codec.{is_some, zeros, ok_slot, ok_table}
+use Rattle.word.specs.Codec.{zeros, ok_slot, ok_table}
 use Rattle.word.specs.Text.{test_text}
 use Rattle.word.specs.Tests.{every}
 use Rattle.word.proofs.Be.{bytes_all, bytes_are}
 use Rattle.word.proofs.Cut.{length_cut}
 use Rattle.word.proofs.Tests.{every_at, every_false}
 use Rattle.word.proofs.Codec.{slot_end, ok_below, ok_table_more, ok_table_false, ok_table_rest}
-use Rattle.slots.specs.declared.OptionLoose.{OptionLoose}
-use Rattle.slots.specs.declared.OptionLoose.TheVariants as option_loose
-use Rattle.slots.specs.declared.OptionLock.{OptionLock}
-use Rattle.slots.specs.declared.OptionLock.TheVariants as option_lock
-use Rattle.slots.specs.declared.OptionRow.{OptionRow}
-use Rattle.slots.specs.declared.OptionRow.TheVariants.{NoRow, Row}
-use Rattle.model.specs.declared.Loose.{Loose}
-use Rattle.model.specs.declared.Lock.{Lock}
-use Rattle.transaction.specs.declared.Edit.{Edit}
-use Rattle.slots.specs.Values.{loose_in, loose_option, lock_in, lock_option}
-use Rattle.slots.specs.Row.{row_in, row_option}
 use Rattle.region.specs.Layout.{version_at, rest_at, setting_at, names_at, lines_at, mode_at, rows_at, packed_lock_at, region_size, rest_size}
 use Rattle.region.specs.Region.{name_count, line_count, mode_number, row_count, layout_tests, layout}
 use Rattle.layout.specs.declared.Table.{Table}
@@ -50,10 +38,6 @@ pass p q = ap₂ (λ (t u : Bool). t && u) p q
 
 -- ---- what a slot holds
 
--- whether something was read, by the reader's own answer o
-told : {O A : Type 0} (option : O → Option A) (o q : O) (x : Option A) → option o ≡ x → o ≡ q → is_some (option q) ≡ is_some x
-told option o q x e h = ap (λ o. is_some (option o)) (sym h) ∙ ap is_some e
-
 module _ (s : List ℕ) where
   pub text_long : 64 < get_or s 0 0 → false ≡ test_text 64 s
   unfolding test_text
@@ -71,24 +55,6 @@ module _ (s : List ℕ) where
       e
       ∙ ap zeros (text_rest (get_or s 0 0))
       ∙ ap (λ (t : Bool). t && zeros (drop (get_or s 0 0) (drop 1 s))) (sym (le-leb _ _ h))
-
-  pub loose_bad : (o : OptionLoose) → loose_option o ≡ loose_in s → o ≡ option_loose.NoLoose → false ≡ is_some (loose_in s)
-  loose_bad o = told loose_option o _ _
-
-  pub loose_held : (o : OptionLoose) → loose_option o ≡ loose_in s → (v : Loose) → o ≡ option_loose.Loose v → true ≡ is_some (loose_in s)
-  loose_held o e v = told loose_option o _ _ e
-
-  pub lock_bad : (o : OptionLock) → lock_option o ≡ lock_in s → o ≡ option_lock.NoLock → false ≡ is_some (lock_in s)
-  lock_bad o = told lock_option o _ _
-
-  pub lock_held : (o : OptionLock) → lock_option o ≡ lock_in s → (v : Lock) → o ≡ option_lock.Lock v → true ≡ is_some (lock_in s)
-  lock_held o e v = told lock_option o _ _ e
-
-  pub row_bad : (o : OptionRow) → row_option o ≡ row_in s → o ≡ NoRow → false ≡ is_some (row_in s)
-  row_bad o = told row_option o _ _
-
-  pub row_held : (o : OptionRow) → row_option o ≡ row_in s → (v : Edit) → o ≡ Row v → true ≡ is_some (row_in s)
-  row_held o e v = told row_option o _ _ e
 
   -- ---- by its table
 

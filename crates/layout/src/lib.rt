@@ -8,9 +8,8 @@ ghost use Rattle.region.specs.Layout.{region_size};
 ghost use Rattle.region.specs.Region.{layout};
 ghost use Rattle.layout.specs.Tables.{width_of, limit_of, base_of, test_of, table_test, head_tests, count_tests, table_tests};
 
-use model::{Line, WriteReflog};
+use model::{Line, Lock, WriteReflog};
 use region::Layout;
-use slots::{OptionLock, OptionLoose, OptionRow};
 use target::NameNumber;
 use transaction::{Edit, PackedRefs};
 
@@ -82,36 +81,6 @@ fn text_ok(slot: &[u8]) -> bool
     word::all_zero(&slot[a..])
 }
 
-fn loose_ok(slot: &[u8]) -> bool
-    requires { length slot.now ≡ width_of Table.Looses }
-    ensures { result ≡ test_of Table.Looses slot.now }
-{
-    let OptionLoose::Loose(_) = slots::get_loose(slot) else {
-        return false;
-    };
-    true
-}
-
-fn lock_ok(slot: &[u8]) -> bool
-    requires { length slot.now ≡ width_of Table.Locks }
-    ensures { result ≡ test_of Table.Locks slot.now }
-{
-    let OptionLock::Lock(_) = slots::get_lock(slot) else {
-        return false;
-    };
-    true
-}
-
-fn row_ok(slot: &[u8]) -> bool
-    requires { length slot.now ≡ width_of Table.Rows }
-    ensures { result ≡ test_of Table.Rows slot.now }
-{
-    let OptionRow::Row(_) = slots::get_row(slot) else {
-        return false;
-    };
-    true
-}
-
 // A slot that holds something.
 fn held_ok(table: Table, slot: &[u8]) -> bool
     requires { length slot.now ≡ width_of table }
@@ -119,11 +88,10 @@ fn held_ok(table: Table, slot: &[u8]) -> bool
 {
     match table {
         Table::Names => text_ok(slot),
-        Table::Looses => loose_ok(slot),
-        Table::Packeds => true,
-        Table::Locks => lock_ok(slot),
-        Table::Rows => row_ok(slot),
-        Table::Lines => true,
+        Table::Looses => slots::get_loose(slot).is_some(),
+        Table::Locks => slots::get_lock(slot).is_some(),
+        Table::Rows => slots::get_row(slot).is_some(),
+        Table::Packeds | Table::Lines => true,
     }
 }
 
@@ -144,14 +112,10 @@ pub fn slots_ok(
     requires count_bound { count ≤ 1024 }
     ensures { result ≡ ok_table width (test_of table) count n base region.now }
 {
-    let mut i: usize = 0;
-    while i < n {
+    for i in 0..n {
         let a = base + i * width;
         let e = a + width;
-        let ok = held_ok(table, &region[a..e]);
-        if ok {
-            i += 1;
-        } else {
+        if !held_ok(table, &region[a..e]) {
             return false;
         }
     }
@@ -213,7 +177,7 @@ fn counts_ok(region: &[u8]) -> bool
     if rows > most_rows(mode) {
         return false;
     }
-    word::get_at(region, Layout::PACKED_LOCK, 1) <= OptionLock::OURS
+    word::get_at(region, Layout::PACKED_LOCK, 1) <= Lock::OURS
 }
 
 // The head is tested already, so no count is past its table's slots.

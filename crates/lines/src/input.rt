@@ -1,116 +1,36 @@
-// Standard input, line by line.
-use crate::Line;
-use notes::{Note, Notes};
+// The input, line by line.
+ghost use Rattle.std.specs.Prelude.{◌≤◌, OnOk, vec_len};
 
-// The bytes that were read and are still to be taken.
-pub type Input = [u8; 65536];
+use std::alloc::AllocError;
+use std::io::Read;
 
-#[derive(Clone, Copy)]
-enum Byte {
-    Of(u8),
-    Nothing,
-}
-
-// What became of a line: it stands whole, without its newline; it has more bytes than a line may have; it has no newline; or the
-// input is at its end.
-#[derive(Clone, Copy)]
-pub enum Taken {
-    Whole,
+// How a line of the input ends: behind 120 bytes at most; behind more than a line may have; or with the input, and no newline.
+#[derive(Clone, Copy, Debug, PartialEq, Eq)]
+pub enum Ending {
+    Newline,
     TooLong,
-    Unended,
-    Nothing,
+    NoNewline,
 }
 
-// One byte is asked for at a time: to fill more would wait for input that is not there yet, behind a line that is.
-fn fill(input: &mut Input, notes: &mut Notes) {
-    let got = io::read_full(0, &mut input[..1]);
-    notes[Note::FROM] = 0;
-    notes[Note::TO] = got as u64;
-}
+const LONGEST: usize = 120;
 
-fn fill_if_empty(input: &mut Input, notes: &mut Notes) {
-    if notes[Note::TO] <= notes[Note::FROM] {
-        fill(input, notes);
-    }
-}
-
-fn take(input: &mut Input, notes: &mut Notes) -> Byte {
-    fill_if_empty(input, notes);
-    let at = notes[Note::FROM];
-    if notes[Note::TO] <= at {
-        return Byte::Nothing;
-    }
-    if at < 65536 {
-        notes[Note::FROM] = at + 1;
-        return Byte::Of(input[at as usize]);
-    }
-    Byte::Nothing
-}
-
-// One byte more of the line: true if the line goes on. What a line is too long by is passed over, but for one byte.
-fn put(line: &mut Line, notes: &mut Notes, byte: u8) -> bool {
-    let at = notes[Note::LENGTH];
-    if byte == b'\n' {
-        return false;
-    }
-    if at <= 120 {
-        line[at as usize] = byte;
-        notes[Note::LENGTH] = at + 1;
-    }
-    true
-}
-
-#[derive(Clone, Copy)]
-enum Went {
-    Goes,
-    Ends,
-    Breaks,
-}
-
-fn turn(input: &mut Input, line: &mut Line, notes: &mut Notes) -> Went {
-    match take(input, notes) {
-        Byte::Of(byte) => {
-            if put(line, notes, byte) {
-                Went::Goes
-            } else {
-                Went::Ends
-            }
+// Takes the next line, up to its newline and no further. Its bytes are left in `line`, without the newline; of a line that is too long
+// only as many as show that it is. There is none where the input is at its end, or cannot be read.
+pub fn next_line<R: Read>(input: &mut R, line: &mut Vec<u8>) -> Result<Option<Ending>, AllocError>
+    ensures { OnOk result (vec_len line.new ≤ 121) }
+{
+    line.clear();
+    for byte in input.bytes() {
+        match byte {
+            Ok(b'\n') if line.len() <= LONGEST => return Ok(Some(Ending::Newline)),
+            Ok(b'\n') => return Ok(Some(Ending::TooLong)),
+            Ok(byte) if line.len() <= LONGEST => line.push(byte)?,
+            Ok(_) => {}
+            Err(_) => break,
         }
-        Byte::Nothing => Went::Breaks,
     }
-}
-
-fn ended(notes: &Notes) -> Taken {
-    if notes[Note::LENGTH] <= 120 {
-        Taken::Whole
-    } else {
-        Taken::TooLong
+    if line.is_empty() {
+        return Ok(None);
     }
-}
-
-fn broken(notes: &Notes) -> Taken {
-    if notes[Note::LENGTH] == 0 {
-        Taken::Nothing
-    } else {
-        Taken::Unended
-    }
-}
-
-// The next line. Nothing says that it ends, so the loop counts its turns down, from a number that no run uses up.
-pub fn line(input: &mut Input, line: &mut Line, notes: &mut Notes) -> Taken {
-    notes[Note::LENGTH] = 0;
-    let mut left = u64::MAX;
-    while left > 0 {
-        match turn(input, line, notes) {
-            Went::Goes => {}
-            Went::Ends => {
-                return ended(notes);
-            }
-            Went::Breaks => {
-                return broken(notes);
-            }
-        }
-        left -= 1;
-    }
-    Taken::TooLong
+    Ok(Some(Ending::NoNewline))
 }

@@ -1,8 +1,7 @@
-// The lines of a file: words with one space between them. The first says what the line is, the others are numbers.
+// The lines of a file of recorded cases, as tests/rust/FORMAT.md has them: words with one space between them, of which the first says
+// what the line is, and the others are numbers.
 #![tactic(auto)]
 
 pub mod input;
+pub mod order;
 pub mod words;
-
-// The bytes of a line, without its newline. What stands past them is left from other lines.
-pub type Line = [u8; 128];

@@ -3,142 +3,121 @@ ghost use Rattle.std.specs.Prelude.{◌<◌};
 ghost use Rattle.model.specs.Store.{count};
 ghost use Rattle.region.specs.Region.{view, Laid};
 
-use model::Packed;
-use target::{Found, NameNumber};
+use model::Lock;
+use std::{fmt, io, str};
+use target::{Found, NameNumber, Target};
 
-// The bytes of a name; of a number that is not registered the number.
-pub fn called(region: &[u8], n: NameNumber)
-    requires { Laid region.now }
-{
-    if n.place() >= region::count_names(region) {
-        say::number(b"name ", n.0 as u64);
-        return;
-    }
-    say::text(region::name_at(region, n));
+// A name as it is called: by its bytes, or by its number where that is not registered, or the bytes are no text.
+#[derive(Clone, Copy)]
+pub struct Called<'a> {
+    pub region: &'a [u8],
+    pub name: NameNumber,
+    ghost laid: { Laid region.now },
 }
 
-fn linked(region: &[u8], number: u64)
-    requires { Laid region.now }
-{
-    if number < 256 {
-        called(region, NameNumber::at(number as usize));
+impl fmt::Display for Called<'_> {
+    fn fmt<W: fmt::Write>(&self, f: &mut fmt::Formatter<W>) -> fmt::Result {
+        let (region, name) = (self.region, self.name);
+        if name.place() < region::count_names(region) {
+            if let Ok(text) = str::from_utf8(region::name_at(region, name)) {
+                return f.pad(text);
+            }
+        }
+        write!(f, "name {}", name.0)
     }
 }
 
-// A target by its kind, 0 none, 1 object or 2 link, and its number.
-pub fn target(region: &[u8], kind: u64, number: u64)
-    requires { Laid region.now }
-{
-    if kind == 1 {
-        say::number(b"object ", number);
-    }
-    if kind == 2 {
-        say::text(b"link to ");
-        linked(region, number);
+// What a target points to.
+#[derive(Clone, Copy)]
+pub struct Pointed<'a> {
+    pub region: &'a [u8],
+    pub target: Target,
+    ghost laid: { Laid region.now },
+}
+
+impl fmt::Display for Pointed<'_> {
+    fn fmt<W: fmt::Write>(&self, f: &mut fmt::Formatter<W>) -> fmt::Result {
+        let region = self.region;
+        match self.target {
+            Target::Object(oid) => write!(f, "object {}", oid.0),
+            Target::Symbolic(name) => write!(f, "link to {}", Called { region, name }),
+        }
     }
 }
 
 // ---- values
 
-// The place where a value is found, by its number.
-pub fn place(number: u64) {
-    say::choice(
-        b"|loose|packed|packed behind a broken loose|absent|absent behind a broken loose",
-        number,
-    );
-}
+// The place where a value is found.
+#[derive(Clone, Copy)]
+pub struct Place(pub Found);
 
-// The value, unless it is absent, and where it is found.
-fn reading(region: &[u8], found: Found)
-    requires { Laid region.now }
-{
-    let value = found.value();
-    target(region, value.byte(), value.number());
-    say::choice(b"|, |, ", value.byte());
-    place(found.place());
-}
-
-// The object of a packed value; 0 is none.
-fn object_of(v: Packed) -> u64 {
-    match v {
-        Packed::None => 0,
-        Packed::Object(oid) => oid.0,
+impl fmt::Display for Place {
+    fn fmt<W: fmt::Write>(&self, f: &mut fmt::Formatter<W>) -> fmt::Result {
+        f.write_str(match self.0 {
+            Found::Loose(_) => "loose",
+            Found::Packed(_) => "packed",
+            Found::PackedBehindBroken(_) => "packed behind a broken loose",
+            Found::Absent => "absent",
+            Found::AbsentBehindBroken => "absent behind a broken loose",
+        })
     }
 }
 
-// A packed value that a loose one hides.
-fn hidden(place: u64, under: u64) {
-    if place == Found::LOOSE && under > 0 {
-        say::number(b" (over packed ", under);
-        say::text(b")");
-    }
-}
-
-fn value(region: &[u8], n: NameNumber)
+// The value, unless it is absent, and where it is found; and a packed value that a loose one hides.
+fn value(rt: &impl Print, region: &[u8], n: NameNumber) -> io::Result<()>
     requires laid { Laid region.now }
     requires n_bound { n.0 < count (view region.now) }
 {
     let found = steps::found_of(region, true, n);
-    reading(region, found);
-    hidden(found.place(), object_of(region::packed_at(region, n)));
+    if let Some(target) = found.value() {
+        print!(rt; "{}, ", Pointed { region, target })?;
+    }
+    print!(rt; "{}", Place(found))?;
+    if let (Found::Loose(_), Some(oid)) = (found, region::packed_at(region, n)) {
+        print!(rt; " (over packed {})", oid.0)?;
+    }
+    Ok(())
 }
 
 // ---- one name, and all of them
 
-fn padded(name: &[u8], width: usize) {
-    say::text(name);
-    say::fill(name.len(), width);
-    say::text(b"  ");
+// A free lock is not said.
+fn locked(lock: Lock) -> &'static str {
+    match lock {
+        Lock::Free => "",
+        Lock::Foreign => ", locked by another",
+        Lock::Ours => ", locked by us",
+    }
 }
 
-fn entry(region: &[u8], n: NameNumber, width: usize)
+fn entry(rt: &impl Print, region: &[u8], name: NameNumber, width: usize) -> io::Result<()>
     requires laid { Laid region.now }
-    requires n_bound { n.0 < count (view region.now) }
+    requires name_bound { name.0 < count (view region.now) }
 {
-    say::place(n.0 as u64);
-    padded(region::name_at(region, n), width);
-    value(region, n);
-    // Free is not said.
-    say::choice(
-        b"\n|, locked by another\n|, locked by us\n",
-        slots::lock_byte(region::lock_at(region, n)),
-    );
-}
-
-fn greater(a: usize, b: usize) -> usize {
-    if a < b { b } else { a }
+    print!(rt; "{:>4}  {:<width$}  ", name.0, Called { region, name })?;
+    value(rt, region, name)?;
+    println!(rt; "{}", locked(region::lock_at(region, name)))
 }
 
 // How long the longest name is.
 fn longest(region: &[u8]) -> usize
     requires { Laid region.now }
 {
-    let count = region::count_names(region);
-    let mut most: usize = 0;
-    let mut n: usize = 0;
-    while n < count {
-        let name = region::name_at(region, NameNumber::at(n));
-        most = greater(most, name.len());
-        n += 1;
+    let mut most = 0;
+    for n in 0..region::count_names(region) {
+        most = most.max(region::name_at(region, NameNumber::at(n)).len());
     }
     most
 }
 
-fn entries(region: &[u8], width: usize)
+pub fn all(rt: &impl Print, region: &[u8]) -> io::Result<()>
     requires { Laid region.now }
 {
     let count = region::count_names(region);
-    let mut n: usize = 0;
-    while n < count {
-        entry(region, NameNumber::at(n), width);
-        n += 1;
+    println!(rt; "names: {count}")?;
+    let width = longest(region);
+    for n in 0..count {
+        entry(rt, region, NameNumber::at(n), width)?;
     }
-}
-
-pub fn all(region: &[u8])
-    requires { Laid region.now }
-{
-    say::number(b"names: ", region::count_names(region) as u64);
-    say::end();
-    entries(region, longest(region));
+    Ok(())
 }

@@ -1,8 +1,9 @@
 -- Loads: what each way out answers. Assumes nothing.
+use Rattle.std.specs.Prelude.{Option, Some, None, Ok, Err, is_some}
+use Rattle.target.specs.declared.ObjectNumber.{ObjectNumber}
 use mathlib.Core.Path.{◌≡◌, refl, sym, ap, ◌∙◌, subst}
-use mathlib.Core.Bool.{Bool, true, false, not, ◌&&◌, cond}
+use mathlib.Core.Bool.{Bool, true, false, not, ◌&&◌, cond, false≢true}
 use mathlib.Core.List.{List, [], ◌∷◌}
-use mathlib.Core.Option.{none, some}
 use Prim.Native.Nat.{ℕ, zero, suc, ◌<◌, ◌≤◌, ◌^◌}
 use native.Mathlib.Omega.{arith}
 use lib.Dec.{eqb, ltb}
@@ -10,92 +11,61 @@ use borrow.Author.Tests.{lt-leb, lt-ltb, ltb-true, ne_eqb, not-true, not-false}
 use mir.Val.{Fits}
 use mir.Syntax.{w64}
 use Rattle.target.specs.declared.NameNumber.{NameNumber}
-use Rattle.target.specs.declared.OptionName.{OptionName}
-use Rattle.target.specs.declared.OptionName.TheVariants.{NoName, Name}
 use Rattle.target.specs.declared.Target.TheVariants.{Object}
-use Rattle.target.specs.declared.OptionTarget.TheVariants.{Absent, Present}
 use Rattle.target.specs.Fields.{name_below}
 use Rattle.model.specs.declared.Loose.{Loose}
 use Rattle.model.specs.declared.Loose.TheVariants as loose
-use Rattle.model.specs.declared.Packed.{Packed}
-use Rattle.model.specs.declared.Packed.TheVariants as packed
 use Rattle.model.specs.declared.Refusal.TheVariants.{NotRegistered, WrongState, BadLoad}
 use Rattle.model.specs.Names.{packable}
 use Rattle.model.specs.Store.{Store, count, entry_at, entry_of, is_prepared, is_id, is_none, put_loose, put_packed, change_entry}
 use Rattle.model.specs.Beneath.{loose_above, loose_beneath}
-use Rattle.model.specs.Outcome.Outcome.{refuse, pass}
 use Rattle.model.specs.Reply.{Reply, ◌>>◌, known, idle}
 use Rattle.model.specs.Reply.Call.{load_loose, load_packed}
 use Rattle.model.specs.Reply.Given.{nothing}
 use Rattle.model.specs.Calls.{step}
 use Rattle.model.specs.Load.{loose_of, nests, loose_loaded, packed_of, packed_loaded}
-use Rattle.slots.specs.declared.OptionLoose.{OptionLoose}
-use Rattle.slots.specs.declared.OptionLoose.TheVariants as option_loose
-use Rattle.slots.specs.Values.{FitsLoose, FitsPacked, unbroken, loose_from, loose_option}
+use Rattle.slots.specs.Values.{FitsLoose, FitsPacked, unbroken, loose_from}
 use Rattle.model.specs.EditList.{◌>>=◌ as ◌>>=ₒ◌}
-use Rattle.model.specs.Numbers.{answer, refusal_answer}
+use Rattle.model.specs.Numbers.{answer}
 use Rattle.word.proofs.Tests.{both_true}
 use Rattle.model.proofs.Binds.{cond_some, some_is, none_some}
 use Rattle.slots.proofs.Forms.{loose_back}
 use Rattle.region.specs.Region.{view, good, mode_byte, Became}
 use Rattle.region.proofs.Read.{is_prepared_lem, not_prepared}
-use Rattle.steps.specs.declared.OptionPacked.{OptionPacked}
-use Rattle.steps.specs.declared.OptionPacked.TheVariants as option_packed
-use Rattle.steps.specs.Steps.{packed_by, packed_option}
+use Rattle.steps.specs.Steps.{packed_by}
 use Rattle.answers.specs.declared.Verdict.{Verdict}
 use Rattle.answers.specs.Answers.{answer_by}
 use Rattle.calls.specs.Call.{reply_to, Replied}
 use Rattle.calls.proofs.Replies.{good_laid, says_no, says_done}
 use Rattle.calls.proofs.Known.{known_far, known_near, known_as}
 
--- ---- a link that is not registered
-
-pub no_link : (s : Store) (kind x : ℕ) → (kind ≡ 2 → ⊥) → false ≡ (eqb kind 2 && not (ltb x (count s)))
-no_link s kind x h = rw (ne_eqb kind 2 h)
-
--- o is the name of the number, if it is registered
-module _ (s : Store) (kind x : ℕ) (o : OptionName) (h : kind ≡ 2) (e : o ≡ name_below (count s) x) where
-  pub link_stray : o ≡ NoName → true ≡ (eqb kind 2 && not (ltb x (count s)))
-  link_stray q = rw h (go (ltb x (count s)) refl)
-    where
-      go : (b : Bool) → ltb x (count s) ≡ b → true ≡ not (ltb x (count s))
-      go true p = absurd (let t : o ≡ Name (record { 0 = x }) = rw p at e in let z : ◌≡◌ {A = ℕ} 0 1 = cc in omega arith)
-      go false p = rw p
-
-  pub link_known : (m : NameNumber) → o ≡ Name m → false ≡ (eqb kind 2 && not (ltb x (count s)))
-  link_known m q = rw h (go (ltb x (count s)) refl)
-    where
-      go : (b : Bool) → ltb x (count s) ≡ b → false ≡ not (ltb x (count s))
-      go true p = rw p
-      go false p = absurd (let t : o ≡ NoName = rw p at e in let z : ◌≡◌ {A = ℕ} 0 1 = cc in omega arith)
-
 -- ---- a value that would stand above another, or beneath one
 
 module _ (s : Store) (n : ℕ) (v : Loose) (a : Bool) (ea : a ≡ not (is_none v)) where
-  pub nests_none : not a ≡ true → false ≡ nests s n v
+  pub nests_none : a ≡ false → a ≡ nests s n v
   unfolding nests
-  nests_none t = rw (sym ea ∙ not-true a t)
+  nests_none t = rw (sym ea ∙ t) t
 
-  module _ (t : not a ≡ false) (b : Bool) (eb : b ≡ loose_above s n) where
-    pub nests_under : b ≡ true → true ≡ nests s n v
+  module _ (t : a ≡ true) (b : Bool) (eb : b ≡ loose_above s n) where
+    pub nests_under : b ≡ true → b ≡ nests s n v
     unfolding nests
-    nests_under u = rw (sym ea ∙ not-false a t, sym eb ∙ u)
+    nests_under u = rw (sym ea ∙ t, sym eb ∙ u) u
 
     pub nests_over : b ≡ false → (r : Bool) → r ≡ loose_beneath s n → r ≡ nests s n v
     unfolding nests
-    nests_over u r er = rw (sym ea ∙ not-false a t, sym eb ∙ u) er
+    nests_over u r er = rw (sym ea ∙ t, sym eb ∙ u) er
 
 -- ---- 15, then 3
 
 module _ (m : ℕ) (s : Store) (em : m ≡ mode_byte s.prepared) where
-  busy : (m ≡ 0 → ⊥) → idle s ≡ refuse WrongState
+  busy : (m ≡ 0 → ⊥) → idle s ≡ Err WrongState
   busy h = rw (is_prepared_lem s.prepared (λ (q : mode_byte s.prepared ≡ 0). h (em ∙ q)))
 
-  free : m ≡ 0 → idle s ≡ pass tt
+  free : m ≡ 0 → idle s ≡ Ok tt
   free h = rw (ap is_prepared (not_prepared s.prepared (sym em ∙ h)))
 
   -- past both tests
-  goes : (n : ℕ) (o : OptionName) (a : NameNumber) → m ≡ 0 → o ≡ name_below (count s) n → o ≡ Name a → (reply : Reply) → (idle s >> (known n s >> reply)) ≡ reply
+  goes : (n : ℕ) (o : Option NameNumber) (a : NameNumber) → m ≡ 0 → o ≡ name_below (count s) n → o ≡ Some a → (reply : Reply) → (idle s >> (known n s >> reply)) ≡ reply
   goes n o a h e q reply = rw (free h, known_near n s o e a q)
 
 -- ---- the values
@@ -104,7 +74,7 @@ module _ (m : ℕ) (s : Store) (em : m ≡ mode_byte s.prepared) where
 loose_same : (kind x k : ℕ) → Fits w64 x → k ≤ 256 → (eqb kind 2 && not (ltb x k)) ≡ false → loose_from kind x ≡ loose_of kind x
 loose_same zero x k f l h = go (eqb x 0)
   where
-    go : (b : Bool) → (cond b (some Absent) none >>=ₒ λ t. some (unbroken t)) ≡ cond b (some loose.None) none
+    go : (b : Bool) → (cond b (Some None) None >>=ₒ λ t. Some (unbroken t)) ≡ cond b (Some loose.None) None
     go true = refl
     go false = refl
 loose_same (suc zero) x k f l h =
@@ -117,8 +87,8 @@ loose_same (suc zero) x k f l h =
     positive (suc x) = let p : 0 < suc x = omega arith in rw (lt-ltb 0 (suc x) p, ne_eqb (suc x) 0 (λ e. omega arith))
 
     go : (b : Bool)
-        → (cond b none (some (Present (Object (record { 0 = x })))) >>=ₒ λ t. some (unbroken t))
-        ≡ cond (not b) (some (loose.Target (Object (record { 0 = x })))) none
+        → (cond b None (Some (Some (Object (record { 0 = x })))) >>=ₒ λ t. Some (unbroken t))
+        ≡ cond (not b) (Some (loose.Target (Object (record { 0 = x })))) None
     go true = refl
     go false = refl
 loose_same (suc (suc zero)) x k f l h =
@@ -129,7 +99,7 @@ loose_same (suc (suc (suc zero))) x k f l h = refl
 loose_same (suc (suc (suc (suc kind)))) x k f l h =
     rw (ne_eqb (suc (suc (suc (suc kind)))) 3 (λ e. omega arith), ne_eqb (suc (suc (suc (suc kind)))) 2 (λ e. omega arith))
 
-loose_fits : (kind x : ℕ) (v : Loose) → Fits w64 x → loose_from kind x ≡ some v → FitsLoose v
+loose_fits : (kind x : ℕ) (v : Loose) → Fits w64 x → loose_from kind x ≡ Some v → FitsLoose v
 loose_fits kind x v f h = let p : x < 2 ^ 64 = f.fits in (loose_back kind x v h p).2
 
 packed_same : (name : List ℕ) (b : Bool) (kind x : ℕ) → b ≡ packable name → packed_by b kind x ≡ packed_of name kind x
@@ -137,35 +107,35 @@ packed_same name b zero x e = refl
 packed_same name b (suc zero) x e = rw e
 packed_same name b (suc (suc kind)) x e = refl
 
-packed_fits : (b : Bool) (kind x : ℕ) (v : Packed) → Fits w64 x → some v ≡ packed_by b kind x → FitsPacked v
-packed_fits b zero x v f h = rw (← some_is (cond_some (eqb x 0) (some packed.None) v (sym h)).1) tt
+packed_fits : (b : Bool) (kind x : ℕ) (v : Option ObjectNumber) → Fits w64 x → Some v ≡ packed_by b kind x → FitsPacked v
+packed_fits b zero x v f h = rw (← some_is (cond_some (eqb x 0) (Some None) v (sym h)).1) tt
 packed_fits b (suc zero) x v f h =
     let p : x < 2 ^ 64 = f.fits in
-    let c = cond_some (is_id x && b) (some (packed.Object (record { 0 = x }))) v (sym h) in
+    let c = cond_some (is_id x && b) (Some (Some (record { 0 = x }))) v (sym h) in
     rw (← some_is c.1) (ltb-true 0 x (both_true (ltb 0 x) (ltb x (2 ^ 64)) (both_true (is_id x) b c.0).0).0, p)
 packed_fits b (suc (suc k)) x v f h = absurd (none_some (sym h))
 
 -- ---- the ways out
 
-module _ (n kind x : ℕ) (r : List ℕ) (ok : Bool) (is : ok ≡ good r) (y : not ok ≡ false) (m : ℕ) (em : m ≡ mode_byte (view r).prepared) (w : Verdict) where
-  pub loose_busy : (m ≡ 0 → ⊥) → answer_by w ≡ answer 15 [] → Replied w r r (reply_to (load_loose n kind x) r)
-  unfolding step loose_loaded refusal_answer
-  loose_busy h a = says_no (load_loose n kind x) r ok is refl y WrongState w a (rw (busy m (view r) em h))
+module _ (n kind x : ℕ) (r : List ℕ) (ok : Bool) (is : ok ≡ good r) (y : not ok ≡ false) (m : ℕ) (em : m ≡ mode_byte (view r).prepared) where
+  pub loose_busy : (m ≡ 0 → ⊥) → Replied (Err WrongState) r r (reply_to (load_loose n kind x) r)
+  unfolding step loose_loaded
+  loose_busy h = says_no (load_loose n kind x) r ok is refl y WrongState (rw (busy m (view r) em h))
 
-  pub packed_busy : (m ≡ 0 → ⊥) → answer_by w ≡ answer 15 [] → Replied w r r (reply_to (load_packed n kind x) r)
-  unfolding step packed_loaded refusal_answer
-  packed_busy h a = says_no (load_packed n kind x) r ok is refl y WrongState w a (rw (busy m (view r) em h))
+  pub packed_busy : (m ≡ 0 → ⊥) → Replied (Err WrongState) r r (reply_to (load_packed n kind x) r)
+  unfolding step packed_loaded
+  packed_busy h = says_no (load_packed n kind x) r ok is refl y WrongState (rw (busy m (view r) em h))
 
-  module _ (h : m ≡ 0) (i : OptionName) (ei : i ≡ name_below (count (view r)) n) where
-    pub loose_far : i ≡ NoName → answer_by w ≡ answer 3 (n ∷ []) → Replied w r r (reply_to (load_loose n kind x) r)
-    unfolding step loose_loaded refusal_answer
-    loose_far l a = says_no (load_loose n kind x) r ok is refl y (NotRegistered n) w a (rw (free m (view r) em h, known_far n (view r) i ei l))
+  module _ (h : m ≡ 0) (i : Option NameNumber) (ei : i ≡ name_below (count (view r)) n) where
+    pub loose_far : i ≡ None → Replied (Err (NotRegistered n)) r r (reply_to (load_loose n kind x) r)
+    unfolding step loose_loaded
+    loose_far l = says_no (load_loose n kind x) r ok is refl y (NotRegistered n) (rw (free m (view r) em h, known_far n (view r) i ei l))
 
-    pub packed_far : i ≡ NoName → answer_by w ≡ answer 3 (n ∷ []) → Replied w r r (reply_to (load_packed n kind x) r)
-    unfolding step packed_loaded refusal_answer
-    packed_far l a = says_no (load_packed n kind x) r ok is refl y (NotRegistered n) w a (rw (free m (view r) em h, known_far n (view r) i ei l))
+    pub packed_far : i ≡ None → Replied (Err (NotRegistered n)) r r (reply_to (load_packed n kind x) r)
+    unfolding step packed_loaded
+    packed_far l = says_no (load_packed n kind x) r ok is refl y (NotRegistered n) (rw (free m (view r) em h, known_far n (view r) i ei l))
 
-    module _ (at : NameNumber) (l : i ≡ Name at) where
+    module _ (at : NameNumber) (l : i ≡ Some at) where
       on : (reply : Reply) → (idle (view r) >> (known n (view r) >> reply)) ≡ reply
       on reply = goes m (view r) em n i at h ei l reply
 
@@ -173,62 +143,62 @@ module _ (n kind x : ℕ) (r : List ℕ) (ok : Bool) (is : ok ≡ good r) (y : n
       as_named = known_as n (view r) i ei at l
 
       module _ (stray : Bool) (es : stray ≡ (eqb kind 2 && not (ltb x (count (view r))))) where
-        pub loose_stray : stray ≡ true → answer_by w ≡ answer 3 (x ∷ []) → Replied w r r (reply_to (load_loose n kind x) r)
-        unfolding step loose_loaded refusal_answer
-        loose_stray q a = says_no (load_loose n kind x) r ok is refl y (NotRegistered x) w a (on _ ∙ (rw (sym es ∙ q)))
+        pub loose_stray : stray ≡ true → Replied (Err (NotRegistered x)) r r (reply_to (load_loose n kind x) r)
+        unfolding step loose_loaded
+        loose_stray q = says_no (load_loose n kind x) r ok is refl y (NotRegistered x) (on _ ∙ (rw (sym es ∙ q)))
 
-        module _ (q : stray ≡ false) (o : OptionLoose) (eo : loose_option o ≡ loose_from kind x) (f : Fits w64 x) where
-          same : loose_option o ≡ loose_of kind x
+        module _ (q : stray ≡ false) (o : Option Loose) (eo : o ≡ loose_from kind x) (f : Fits w64 x) where
+          same : o ≡ loose_of kind x
           same = eo ∙ loose_same kind x (count (view r)) f (good_laid r ok is y).names (sym es ∙ q)
 
-          pub loose_bad : o ≡ option_loose.NoLoose → answer_by w ≡ answer 21 [] → Replied w r r (reply_to (load_loose n kind x) r)
-          unfolding step loose_loaded refusal_answer
-          loose_bad p a =
-              let none_there : none ≡ loose_of kind x = ap loose_option (sym p) ∙ same in
-              says_no (load_loose n kind x) r ok is refl y BadLoad w a (on _ ∙ (rw (sym es ∙ q, ← none_there)))
+          pub loose_bad : o ≡ None → Replied (Err BadLoad) r r (reply_to (load_loose n kind x) r)
+          unfolding step loose_loaded
+          loose_bad p =
+              let none_there : None ≡ loose_of kind x = (sym p) ∙ same in
+              says_no (load_loose n kind x) r ok is refl y BadLoad (on _ ∙ (rw (sym es ∙ q, ← none_there)))
 
-          module _ (v : Loose) (p : o ≡ option_loose.Loose v) (z : Bool) (ez : z ≡ nests (view r) at.0 v) where
-            there : some v ≡ loose_of kind x
-            there = ap loose_option (sym p) ∙ same
+          module _ (v : Loose) (p : o ≡ Some v) (z : Bool) (ez : z ≡ nests (view r) at.0 v) where
+            there : Some v ≡ loose_of kind x
+            there = (sym p) ∙ same
 
             nests_is : (t : Bool) → z ≡ t → nests (view r) n v ≡ t
             nests_is t e = ap (λ (at : NameNumber). nests (view r) at.0 v) (sym as_named) ∙ sym ez ∙ e
 
-            pub loose_nested : z ≡ true → answer_by w ≡ answer 21 [] → Replied w r r (reply_to (load_loose n kind x) r)
-            unfolding step loose_loaded refusal_answer
-            loose_nested u a =
-                says_no (load_loose n kind x) r ok is refl y BadLoad w a (on _ ∙ (rw (sym es ∙ q, ← there, nests_is true u)))
-
-            pub loose_done : (r' : List ℕ) → z ≡ false → Became r' (change_entry (put_loose v) at.0 (view r)) → answer_by w ≡ answer 0 []
-                → Replied w r r' (reply_to (load_loose n kind x) r)
+            pub loose_nested : z ≡ true → Replied (Err BadLoad) r r (reply_to (load_loose n kind x) r)
             unfolding step loose_loaded
-            loose_done r' u b a =
+            loose_nested u =
+                says_no (load_loose n kind x) r ok is refl y BadLoad (on _ ∙ (rw (sym es ∙ q, ← there, nests_is true u)))
+
+            pub loose_done : (w : Verdict) (r' : List ℕ) → z ≡ false → Became r' (change_entry (put_loose v) at.0 (view r)) → answer_by w ≡ answer 0 []
+                → Replied (Ok w) r r' (reply_to (load_loose n kind x) r)
+            unfolding step loose_loaded
+            loose_done w r' u b a =
                 says_done (load_loose n kind x) r ok is refl y w (change_entry (put_loose v) n (view r)) nothing r' (on _ ∙ (rw (sym es ∙ q, ← there, nests_is false u))) a
                 (subst (λ (at : NameNumber). Became r' (change_entry (put_loose v) at.0 (view r))) as_named b)
 
-      module _ (name : List ℕ) (en : name ≡ (entry_of (view r) at).name) (b : Bool) (eb : b ≡ packable name) (o : OptionPacked) (eo : packed_option o ≡ packed_by b kind x) where
-        as_packed : packed_option o ≡ packed_of (entry_at (view r) n).name kind x
+      module _ (name : List ℕ) (en : name ≡ (entry_of (view r) at).name) (b : Bool) (eb : b ≡ packable name) (o : Option (Option ObjectNumber)) (eo : o ≡ packed_by b kind x) where
+        as_packed : o ≡ packed_of (entry_at (view r) n).name kind x
         as_packed =
             eo ∙ packed_same (entry_at (view r) n).name b kind x (eb ∙ ap packable (en ∙ ap (λ (at : NameNumber). (entry_of (view r) at).name) as_named))
 
-        pub packed_bad : o ≡ option_packed.NoPacked → answer_by w ≡ answer 21 [] → Replied w r r (reply_to (load_packed n kind x) r)
-        unfolding step packed_loaded refusal_answer
-        packed_bad p a =
-            let none_there : none ≡ packed_of (entry_at (view r) n).name kind x = ap packed_option (sym p) ∙ as_packed in
-            says_no (load_packed n kind x) r ok is refl y BadLoad w a (on _ ∙ (rw (← none_there)))
-
-        pub packed_done : (v : Packed) (r' : List ℕ) → o ≡ option_packed.Packed v → Became r' (change_entry (put_packed v) at.0 (view r)) → answer_by w ≡ answer 0 []
-            → Replied w r r' (reply_to (load_packed n kind x) r)
+        pub packed_bad : o ≡ None → Replied (Err BadLoad) r r (reply_to (load_packed n kind x) r)
         unfolding step packed_loaded
-        packed_done v r' p c a =
-            let there : some v ≡ packed_of (entry_at (view r) n).name kind x = ap packed_option (sym p) ∙ as_packed in
+        packed_bad p =
+            let none_there : None ≡ packed_of (entry_at (view r) n).name kind x = (sym p) ∙ as_packed in
+            says_no (load_packed n kind x) r ok is refl y BadLoad (on _ ∙ (rw (← none_there)))
+
+        pub packed_done : (w : Verdict) (v : Option ObjectNumber) (r' : List ℕ) → o ≡ Some v → Became r' (change_entry (put_packed v) at.0 (view r)) → answer_by w ≡ answer 0 []
+            → Replied (Ok w) r r' (reply_to (load_packed n kind x) r)
+        unfolding step packed_loaded
+        packed_done w v r' p c a =
+            let there : Some v ≡ packed_of (entry_at (view r) n).name kind x = (sym p) ∙ as_packed in
             says_done (load_packed n kind x) r ok is refl y w (change_entry (put_packed v) n (view r)) nothing r' (on _ ∙ (rw (← there))) a
             (subst (λ (at : NameNumber). Became r' (change_entry (put_packed v) at.0 (view r))) as_named c)
 
 -- ---- what is written fits its slot
 
-pub loose_room : (kind x : ℕ) (o : OptionLoose) (v : Loose) → Fits w64 x → loose_option o ≡ loose_from kind x → o ≡ option_loose.Loose v → FitsLoose v
-loose_room kind x o v f e h = loose_fits kind x v f (sym e ∙ ap loose_option h)
+pub loose_room : (kind x : ℕ) (o : Option Loose) (v : Loose) → Fits w64 x → o ≡ loose_from kind x → o ≡ Some v → FitsLoose v
+loose_room kind x o v f e h = loose_fits kind x v f (sym e ∙ h)
 
-pub packed_room : (b : Bool) (kind x : ℕ) (o : OptionPacked) (v : Packed) → Fits w64 x → packed_option o ≡ packed_by b kind x → o ≡ option_packed.Packed v → FitsPacked v
-packed_room b kind x o v f e h = packed_fits b kind x v f (ap packed_option (sym h) ∙ e)
+pub packed_room : (b : Bool) (kind x : ℕ) (o : Option (Option ObjectNumber)) (v : Option ObjectNumber) → Fits w64 x → o ≡ packed_by b kind x → o ≡ Some v → FitsPacked v
+packed_room b kind x o v f e h = packed_fits b kind x v f ((sym h) ∙ e)

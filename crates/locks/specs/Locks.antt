@@ -3,14 +3,6 @@ use Rattle.std.specs.Prelude.{Bool, true, ltb}
 use Rattle.model.specs.declared.Lockable.{Lockable}
 use Rattle.model.specs.declared.Lockable.TheVariants.{Name, PackedTable}
 use Rattle.model.specs.Store.{Store, count}
-use Rattle.model.specs.Outcome.{Outcome}
-use Rattle.model.specs.Outcome.Outcome.{refuse, pass}
-use Rattle.locks.specs.declared.Sought.{Sought}
-use Rattle.locks.specs.declared.Sought.TheVariants.{Refused, Found}
-
-abbrev pub sought_outcome : Sought → Outcome Lockable
-sought_outcome (Refused x) = refuse x
-sought_outcome (Found what) = pass what
 
 -- a name is registered, so that its lock can be read and written
 abbrev pub is_there : Lockable → Store → Bool

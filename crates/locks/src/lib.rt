@@ -8,34 +8,25 @@ ghost use Rattle.model.specs.Reply.Call.{place_lock, lift_lock};
 ghost use Rattle.model.specs.Load.{lockable, lock_of, set_lock, relocked};
 ghost use Rattle.region.specs.Region.{view, Laid, Became};
 ghost use Rattle.calls.specs.Call.{reply_to, Replied};
-ghost use Rattle.locks.specs.Locks.{sought_outcome, is_there};
+ghost use Rattle.locks.specs.Locks.{is_there};
 
-use answers::{Answer, Verdict};
+use answers::Verdict;
 use model::{Lock, Lockable, Refusal};
-use target::OptionName;
 
 // ---- what is locked
 
 // What a kind and a number stand for, or why for nothing.
-#[derive(Clone, Copy)]
-pub enum Sought {
-    Refused(Refusal),
-    Found(Lockable),
-}
-
-fn lockable_of(region: &[u8], kind: u64, number: u64) -> Sought
+fn lockable_of(region: &[u8], kind: u64, number: u64) -> Result<Lockable, Refusal>
     requires { Laid region.now }
-    ensures { sought_outcome result ≡ lockable kind number (view region.now) }
+    ensures { result ≡ lockable kind number (view region.now) }
 {
     match kind {
         Lockable::NAME => {
-            let OptionName::Name(name) = region::known(region, number) else {
-                return Sought::Refused(Refusal::NotRegistered(number));
-            };
-            Sought::Found(Lockable::Name(name))
+            let name = region::known(region, number).ok_or(Refusal::NotRegistered(number))?;
+            Ok(Lockable::Name(name))
         }
-        Lockable::PACKED_TABLE => Sought::Found(Lockable::PackedTable),
-        _ => Sought::Refused(Refusal::Malformed),
+        Lockable::PACKED_TABLE => Ok(Lockable::PackedTable),
+        _ => Err(Refusal::Malformed),
     }
 }
 
@@ -58,56 +49,46 @@ fn set_lock(region: &mut [u8], what: Lockable, lock: Lock)
     ensures { Became region.new (set_lock what lock (view region.old)) }
 {
     match what {
-        Lockable::Name(name) => {
-            writers::put_lock_at(region, name, lock);
-        }
-        Lockable::PackedTable => {
-            writers::put_packed_lock(region, lock);
-        }
+        Lockable::Name(name) => writers::put_lock_at(region, name, lock),
+        Lockable::PackedTable => writers::put_packed_lock(region, lock),
     }
-}
-
-fn same_lock(a: Lock, b: Lock) -> bool
-    ensures { result ≡ is_lock a b }
-{
-    slots::lock_byte(a) == slots::lock_byte(b)
 }
 
 // A lock that is what it must be becomes another.
-fn relock(region: &mut [u8], kind: u64, number: u64, must: Lock, becomes: Lock) -> Verdict
+fn relock(
+    region: &mut [u8],
+    kind: u64,
+    number: u64,
+    must: Lock,
+    becomes: Lock,
+) -> Result<Verdict, Refusal>
     requires { Laid region.old }
     ensures { Replied result region.old region.new (relocked must becomes kind number (view region.old)) }
 {
-    let sought = lockable_of(region, kind, number);
-    match sought {
-        Sought::Refused(why) => Verdict::refusal(why),
-        Sought::Found(what) => {
-            let lock = lock_of(region, what);
-            if !same_lock(must, lock) {
-                return Verdict::bare(Answer::WRONG_LOCK);
-            }
-            set_lock(region, what, becomes);
-            Verdict::bare(Answer::DONE)
-        }
+    let what = lockable_of(region, kind, number)?;
+    if lock_of(region, what) != must {
+        return Err(Refusal::WrongLock);
     }
+    set_lock(region, what, becomes);
+    Ok(Verdict::done(&[]))
 }
 
 // ---- the calls
 
-pub fn place_lock(region: &mut [u8], kind: u64, number: u64) -> Verdict
+pub fn place_lock(region: &mut [u8], kind: u64, number: u64) -> Result<Verdict, Refusal>
     ensures { Replied result region.old region.new (reply_to (place_lock kind number) region.old) }
 {
     if !good::is_good(region) {
-        return Verdict::bare(Answer::BAD_REGION);
+        return Err(Refusal::BadRegion);
     }
     relock(region, kind, number, Lock::Free, Lock::Foreign)
 }
 
-pub fn lift_lock(region: &mut [u8], kind: u64, number: u64) -> Verdict
+pub fn lift_lock(region: &mut [u8], kind: u64, number: u64) -> Result<Verdict, Refusal>
     ensures { Replied result region.old region.new (reply_to (lift_lock kind number) region.old) }
 {
     if !good::is_good(region) {
-        return Verdict::bare(Answer::BAD_REGION);
+        return Err(Refusal::BadRegion);
     }
     relock(region, kind, number, Lock::Foreign, Lock::Free)
 }

@@ -1,4 +1,5 @@
 -- Rows that differ at most in what turns change, the expected value and the leaf-previous, and what they share. Assumes nothing.
+use Rattle.std.specs.Prelude.{Option, Some, None}
 use mathlib.Core.Path.{◌≡◌, refl, sym, ap, ◌∙◌}
 use mathlib.Core.Bool.{Bool}
 use mathlib.Core.List.{List, [], ◌∷◌, map}
@@ -7,8 +8,6 @@ use lib.ListN.{length, length-map, get_or-map}
 use Rattle.transaction.specs.declared.PreviousValue.TheVariants.{Any}
 use Rattle.transaction.specs.declared.Change.{Change}
 use Rattle.transaction.specs.declared.Change.TheVariants.{Update, Delete}
-use Rattle.transaction.specs.declared.ParentIndex.{ParentIndex}
-use Rattle.transaction.specs.declared.ParentIndex.TheVariants.{NoParent, Parent}
 use Rattle.transaction.specs.declared.PackedRefs.{PackedRefs}
 use Rattle.transaction.specs.declared.Edit.{Edit}
 use Rattle.transaction.specs.Change.{new_value, message_of, is_log_only}
@@ -87,10 +86,10 @@ module _ (rows rows' : List Edit) (e : Alike rows rows') where
   parent_at_lem : (i : ℕ) → (row_at rows i).parent_index ≡ (row_at rows' i).parent_index
   parent_at_lem = alike_at (λ (r : Edit). r.parent_index) (λ r. refl)
 
-  alike_climb : (k : ℕ) (p : ParentIndex) → climb k rows p ≡ climb k rows' p
+  alike_climb : (k : ℕ) (p : Option ℕ) → climb k rows p ≡ climb k rows' p
   alike_climb zero p = refl
-  alike_climb (suc k) NoParent = refl
-  alike_climb (suc k) (Parent j) = rw (parent_at_lem j, alike_climb k (row_at rows' j).parent_index)
+  alike_climb (suc k) None = refl
+  alike_climb (suc k) (Some j) = rw (parent_at_lem j, alike_climb k (row_at rows' j).parent_index)
 
   pub alike_ancestors : (i : ℕ) → ancestors rows i ≡ ancestors rows' i
   unfolding ancestors

@@ -1,15 +1,15 @@
 -- What the rules ask of names, values and lines, whatever is prepared or locked. With nothing prepared, that is all.
 -- Assumes nothing.
+use Rattle.std.specs.Prelude.{Option, None}
+use Rattle.target.specs.declared.ObjectNumber.{ObjectNumber}
 use mathlib.Core.Path.{◌≡◌, refl, sym, ap, ◌∙◌}
 use mathlib.Core.Bool.{Bool, true, false, ◌&&◌, beq, false≢true}
 use mathlib.Core.List.{List, [], ◌∷◌, map}
-use mathlib.Core.Option.{none}
 use Prim.Native.Nat.{ℕ, zero, suc, ◌≤◌, ◌<◌}
 use native.Mathlib.Omega.{arith}
 use lib.ListN.{length, get_or, length-set, length-map, get_or-map}
 use lib.Seq.{get_or-set_same, get_or-set_other}
 use Rattle.model.specs.declared.Loose.{Loose}
-use Rattle.model.specs.declared.Packed.{Packed}
 use Rattle.model.specs.declared.Lock.TheVariants.{Ours}
 use Rattle.model.specs.declared.Line.{Line}
 use Rattle.model.specs.Basic.{Below}
@@ -66,7 +66,7 @@ pub entry_loose : (n : ℕ) (e : Entry) (v : Loose) → fine_entry n e ≡ true 
 unfolding fine_entry
 entry_loose n e v f h = rest_imply (is_name e.name) (both_imply {a = fine_loose n e.loose} (λ x. h) (λ x. x)) f
 
-pub entry_packed : (n : ℕ) (e : Entry) (v : Packed) → fine_entry n e ≡ true → fine_packed e.name v ≡ true
+pub entry_packed : (n : ℕ) (e : Entry) (v : Option ObjectNumber) → fine_entry n e ≡ true → fine_packed e.name v ≡ true
     → fine_entry n (put_packed v e) ≡ true
 unfolding fine_entry
 entry_packed n e v f h =
@@ -116,7 +116,7 @@ base_entry s f n b name fine =
 pub base_loose : (s : Store) (n : ℕ) (v : Loose) → Base s → fine_loose (count s) v ≡ true → Base (change_entry (put_loose v) n s)
 base_loose s n v b h = base_entry s (put_loose v) n b refl (λ k. entry_loose (count s) (entry_at s n) v (b.entries n k) h)
 
-pub base_packed : (s : Store) (n : ℕ) (v : Packed) → Base s → fine_packed (entry_at s n).name v ≡ true → Base (change_entry (put_packed v) n s)
+pub base_packed : (s : Store) (n : ℕ) (v : Option ObjectNumber) → Base s → fine_packed (entry_at s n).name v ≡ true → Base (change_entry (put_packed v) n s)
 base_packed s n v b h = base_entry s (put_packed v) n b refl (λ k. entry_packed (count s) (entry_at s n) v (b.entries n k) h)
 
 pub base_lines : (s : Store) (ls : List Line) → Base s → length ls ≤ 1024
@@ -129,7 +129,7 @@ beq_false : (t : Bool) → beq t false ≡ true → t ≡ false
 beq_false true e = sym e
 beq_false false e = refl
 
-pub idle_fine : (s : Store) → Base s → Alone s → s.prepared ≡ none → ((n : ℕ) → n < count s → is_lock Ours (entry_at s n).lock ≡ false)
+pub idle_fine : (s : Store) → Base s → Alone s → s.prepared ≡ None → ((n : ℕ) → n < count s → is_lock Ours (entry_at s n).lock ≡ false)
     → is_lock Ours s.packed_lock ≡ false → Fine s
 unfolding fine_lock kept_for opens
 idle_fine s b a e free packed_free =
@@ -149,19 +149,19 @@ idle_fine s b a e free packed_free =
       clear = rw e λ i h. absurd (omega arith);
     }
 
-pub idle_free : (s : Store) → Fine s → s.prepared ≡ none
+pub idle_free : (s : Store) → Fine s → s.prepared ≡ None
     → ((n : ℕ) → n < count s → is_lock Ours (entry_at s n).lock ≡ false) × (is_lock Ours s.packed_lock ≡ false)
 unfolding fine_lock kept_for opens
 idle_free s f e = (λ n h. beq_false _ (rw e at (f.locks n h)), beq_false _ (rw e at f.packed_lock))
 
 -- with nothing prepared there is no row to agree with
-pub fine_sound : (s : Store) → Fine s → s.prepared ≡ none → Sound s
+pub fine_sound : (s : Store) → Fine s → s.prepared ≡ None → Sound s
 fine_sound s f e = record { fine = f; agree = λ i h. absurd (none_there i (rw e at h)) }
   where
     none_there : (i : ℕ) → i < 0 → ⊥
     none_there i h = omega arith
 
-pub idle_sound : (s : Store) → Base s → Alone s → s.prepared ≡ none → ((n : ℕ) → n < count s → is_lock Ours (entry_at s n).lock ≡ false)
+pub idle_sound : (s : Store) → Base s → Alone s → s.prepared ≡ None → ((n : ℕ) → n < count s → is_lock Ours (entry_at s n).lock ≡ false)
     → is_lock Ours s.packed_lock ≡ false → Sound s
 idle_sound s b a e free packed_free = fine_sound s (idle_fine s b a e free packed_free) e
 

@@ -1,4 +1,6 @@
 -- Names beneath names: what the tests say of every two, and where it goes over to other stores and rows. Assumes nothing.
+use Rattle.std.specs.Prelude.{Option}
+use Rattle.target.specs.declared.Target.{Target}
 use mathlib.Core.Path.{◌≡◌, refl, sym, ap, ◌∙◌}
 use mathlib.Core.Bool.{Bool, true, false, ◌&&◌, ◌||◌, not, false≢true, and-false}
 use mathlib.Core.List.{List, [], ◌∷◌, ◌++◌}
@@ -9,7 +11,6 @@ use lib.ListN.{length, get_or-eq_default}
 use lib.Dec.{eqb, ltb}
 use borrow.Author.Tests.{not-true, ltb-true, ltb-false}
 use Rattle.word.proofs.Tests.{some_false, false_some}
-use Rattle.target.specs.declared.OptionTarget.{OptionTarget}
 use Rattle.transaction.specs.declared.PackedRefs.{PackedRefs}
 use Rattle.transaction.specs.declared.Edit.{Edit}
 use Rattle.transaction.specs.Change.{existing_in}
@@ -95,13 +96,13 @@ abbrev pub number_at : List Edit → ℕ → ℕ
 number_at rows i = (name_in (row_at rows i)).0
 
 -- 25 does not refuse the row at place i, with this existing value
-pub record ClearAt (s : Store) (mode : PackedRefs) (rows : List Edit) (i : ℕ) (x : OptionTarget) : Type 0 where
+pub record ClearAt (s : Store) (mode : PackedRefs) (rows : List Edit) (i : ℕ) (x : Option Target) : Type 0 where
   pub above : (m : ℕ) → is_loose s m ≡ true → lies s (number_at rows i) m ≡ false
   pub beneath : would_write s mode (row_at rows i) x ≡ true → (m : ℕ) → is_loose s m ≡ true → lies s m (number_at rows i) ≡ false
   pub among : would_write s mode (row_at rows i) x ≡ true → (j : ℕ) → j < i → will_write s mode (row_at rows j) ≡ true
       → (lies s (number_at rows i) (number_at rows j) ≡ false) × (lies s (number_at rows j) (number_at rows i) ≡ false)
 
-module _ (s : Store) (mode : PackedRefs) (rows : List Edit) (i : ℕ) (x : OptionTarget) where
+module _ (s : Store) (mode : PackedRefs) (rows : List Edit) (i : ℕ) (x : Option Target) where
   abbrev nested : ℕ → Bool
   nested j = lies s (number_at rows i) (number_at rows j) || lies s (number_at rows j) (number_at rows i)
 
@@ -179,7 +180,7 @@ module _ (s t : Store) (f : Fewer s t) where
     alone = λ n m p q. lies_moved n m (in_first n p) (in_first m q) ∙ a.alone n m (f.loose n p) (f.loose m q);
   }
 
-  would_moved : (mode : PackedRefs) (r : Edit) (x : OptionTarget) → (name_in r).0 < count s → would_write t mode r x ≡ would_write s mode r x
+  would_moved : (mode : PackedRefs) (r : Edit) (x : Option Target) → (name_in r).0 < count s → would_write t mode r x ≡ would_write s mode r x
   unfolding would_write is_direct
   would_moved mode r x h = rw (f.name (name_in r).0 h)
 
@@ -206,11 +207,11 @@ module _ (s t : Store) (f : Fewer s t) where
 
 -- ---- other rows, of which the row at place i is asked the same, and those before it are the same
 
-pub would_update : (s : Store) (mode : PackedRefs) (a b : Edit) (x : OptionTarget) → a.update ≡ b.update → would_write s mode a x ≡ would_write s mode b x
+pub would_update : (s : Store) (mode : PackedRefs) (a b : Edit) (x : Option Target) → a.update ≡ b.update → would_write s mode a x ≡ would_write s mode b x
 unfolding would_write is_direct
 would_update s mode a b x e = rw e
 
-module _ (s : Store) (mode : PackedRefs) (rows rows' : List Edit) (i : ℕ) (x x' : OptionTarget)
+module _ (s : Store) (mode : PackedRefs) (rows rows' : List Edit) (i : ℕ) (x x' : Option Target)
     (earlier : (j : ℕ) → j < i → (row_at rows' j).update ≡ (row_at rows j).update)
     (name : name_in (row_at rows' i) ≡ name_in (row_at rows i))
     (would : would_write s mode (row_at rows' i) x' ≡ would_write s mode (row_at rows i) x) where

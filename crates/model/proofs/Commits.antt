@@ -1,8 +1,8 @@
 -- A commit of a prepared transaction: what it leaves is what the first of its writes leave, released. Assumes nothing.
+use Rattle.std.specs.Prelude.{Option, Some, None}
 use mathlib.Core.Path.{◌≡◌, refl, sym, ap, ◌∙◌}
 use mathlib.Core.Bool.{Bool, true, false, cond}
 use mathlib.Core.List.{List}
-use mathlib.Core.Option.{Option, none, some}
 use Prim.Native.Nat.{ℕ, ◌+◌, ◌≤◌, ◌<◌, min}
 use native.Mathlib.Omega.{arith}
 use lib.ListN.{length, take}
@@ -29,20 +29,20 @@ use Rattle.model.proofs.Release.{released_free, released_packed_free, released_f
 -- ---- however it ended
 
 ended_leaves : (r : Run) (why : Option Stop) (s : Store) → leaves (ended r why) s ≡ released r.store
-ended_leaves r none s = refl
-ended_leaves r (some w) s = refl
+ended_leaves r None s = refl
+ended_leaves r (Some w) s = refl
 
-ended_reports : (r : Run) (why : Option Stop) → reported (ended r why) ≡ some r.made
-ended_reports r none = refl
-ended_reports r (some w) = refl
+ended_reports : (r : Run) (why : Option Stop) → reported (ended r why) ≡ Some r.made
+ended_reports r None = refl
+ended_reports r (Some w) = refl
 
-ended_done : (r : Run) (why : Option Stop) (t : Store) (g : Given) → ended r why ≡ done t g → (why ≡ none) × (t ≡ released r.store)
-ended_done r none t g e = (refl, cc)
-ended_done r (some w) t g e = absurd (let z : ◌≡◌ {A = ℕ} 0 1 = cc in omega arith)
+ended_done : (r : Run) (why : Option Stop) (t : Store) (g : Given) → ended r why ≡ done t g → (why ≡ None) × (t ≡ released r.store)
+ended_done r None t g e = (refl, cc)
+ended_done r (Some w) t g e = absurd (let z : ◌≡◌ {A = ℕ} 0 1 = cc in omega arith)
 
-ended_stopped : (r : Run) (why : Option Stop) (w : Stop) (t : Store) (k : ℕ) → ended r why ≡ stopped w t k → (why ≡ some w) × (k ≡ r.made)
-ended_stopped r none w t k e = absurd (let z : ◌≡◌ {A = ℕ} 0 1 = cc in omega arith)
-ended_stopped r (some v) w t k e = (cc, cc)
+ended_stopped : (r : Run) (why : Option Stop) (w : Stop) (t : Store) (k : ℕ) → ended r why ≡ stopped w t k → (why ≡ Some w) × (k ≡ r.made)
+ended_stopped r None w t k e = absurd (let z : ◌≡◌ {A = ℕ} 0 1 = cc in omega arith)
+ended_stopped r (Some v) w t k e = (cc, cc)
 
 -- ---- a prepared transaction, and a committer of at most 65,535
 
@@ -81,7 +81,7 @@ module _ (s : Store) (p : is_prepared s.prepared ≡ true) (c k : ℕ) where
       let e : stop_at c k s ≡ released (apply_all (take k (commit_writes c s)) s) = stop_is h in
       let t : Store = apply_all (take k (commit_writes c s)) s in
       record {
-        count = ap reported (commit_runs h) ∙ ended_reports ran ran.stop ∙ ap {B = Option ℕ} some ran_made;
+        count = ap reported (commit_runs h) ∙ ended_reports ran ran.stop ∙ ap {B = Option ℕ} Some ran_made;
         refs = ap refs e ∙ released_refs t;
         logs = ap (λ (x : Store). x.lines) e ∙ released_log t;
         setting = ap (λ (x : Store). x.setting) e ∙ released_setting t ∙ apply_all_setting (take k (commit_writes c s)) s;

@@ -1,8 +1,8 @@
 -- Digits: what was written is read, and what was read is written; and so of a ref line without its line feed. Assumes nothing.
+use Rattle.std.specs.Prelude.{Some}
 use mathlib.Core.Path.{◌≡◌, refl, sym, ap, ap₂, subst, ◌∙◌}
 use mathlib.Core.Bool.{Bool, true, false, cond, false≢true}
 use mathlib.Core.List.{List, [], ◌∷◌, ◌++◌, append_assoc}
-use mathlib.Core.Option.{some}
 use Prim.Native.Nat.{ℕ, zero, suc, ◌+◌, ◌-◌, ◌*◌, ◌/◌, ◌%◌, ◌^◌, ◌≤◌, ◌<◌}
 use native.Mathlib.Nat.{pow-suc, pow-zero, div-lt_iff_lt-mul, mod-lt, mul_assoc, add-zero, add-suc, suc-add}
 use native.Mathlib.Omega.{arith}
@@ -181,7 +181,7 @@ body_zeros r h = digits_zeros 16 24 r.object (32 ∷ r.name) h
 -- the four tests of a ref line, and what it says
 module _ (l : List ℕ) (one : all is_digit (take 40 l) ≡ true) (two : under "000000000000000000000000" l ≡ true) (three : is_char " " (get_or l 40 0) ≡ true)
     (four : is_name (drop 41 l) ≡ true) where
-  tested : ref_in l ≡ some (record { name = drop 41 l; object = digits_from 0 (cut 24 16 l) })
+  tested : ref_in l ≡ Some (record { name = drop 41 l; object = digits_from 0 (cut 24 16 l) })
   unfolding ref_in
   tested = rw (one, two, three, four)
 
@@ -220,7 +220,7 @@ module _ (r : Ref) (small : r.object < 2 ^ 64) (name : is_name r.name ≡ true) 
       ∙ omega arith
 
   -- what was written is read
-  pub ref_read : ref_in (body_of r) ≡ some r
+  pub ref_read : ref_in (body_of r) ≡ Some r
   unfolding ds
   ref_read =
       tested (body_of r)
@@ -228,7 +228,7 @@ module _ (r : Ref) (small : r.object < 2 ^ 64) (name : is_name r.name ≡ true) 
       (ap (under "000000000000000000000000") (body_zeros r small) ∙ begins_more (text "000000000000000000000000") (digits_on 16 r.object (32 ∷ r.name)))
       (ap (λ (l : List ℕ). is_char " " (get_or l 40 0)) whole ∙ ap (is_char " ") (get_or_at ds 32 r.name 0 40 sized))
       (ap is_name rest ∙ name)
-      ∙ ap₂ (λ (n : List ℕ) (x : ℕ). some (record { name = n; object = x })) rest value
+      ∙ ap₂ (λ (n : List ℕ) (x : ℕ). Some (record { name = n; object = x })) rest value
 
 -- ---- what was read is written
 
@@ -290,22 +290,22 @@ module _ (l : List ℕ) (t : every (ref_tests l) ≡ true) where
       ∙ sym back
 
 -- a line that says a ref reaches to its name, and the object fits 64 bits
-pub ref_reaches : (l : List ℕ) (r : Ref) → ref_in l ≡ some r → 41 ≤ length l
+pub ref_reaches : (l : List ℕ) (r : Ref) → ref_in l ≡ Some r → 41 ≤ length l
 unfolding ref_in
 ref_reaches l r e =
-    let t = cond_some (every (ref_tests l)) (some (record { name = drop 41 l; object = digits_from 0 (cut 24 16 l) })) r e in
+    let t = cond_some (every (ref_tests l)) (Some (record { name = drop 41 l; object = digits_from 0 (cut 24 16 l) })) r e in
     omega (arith, reaches l t.0)
 
-pub ref_name : (l : List ℕ) (r : Ref) → ref_in l ≡ some r → r.name ≡ drop 41 l
+pub ref_name : (l : List ℕ) (r : Ref) → ref_in l ≡ Some r → r.name ≡ drop 41 l
 unfolding ref_in
 ref_name l r e =
-    let t = cond_some (every (ref_tests l)) (some (record { name = drop 41 l; object = digits_from 0 (cut 24 16 l) })) r e in
+    let t = cond_some (every (ref_tests l)) (Some (record { name = drop 41 l; object = digits_from 0 (cut 24 16 l) })) r e in
     ap (λ (x : Ref). x.name) (sym (some_is t.1))
 
-pub ref_small : (l : List ℕ) (r : Ref) → ref_in l ≡ some r → r.object < 2 ^ 64
+pub ref_small : (l : List ℕ) (r : Ref) → ref_in l ≡ Some r → r.object < 2 ^ 64
 unfolding ref_in ds₁
 ref_small l r e =
-    let t = cond_some (every (ref_tests l)) (some (record { name = drop 41 l; object = digits_from 0 (cut 24 16 l) })) r e in
+    let t = cond_some (every (ref_tests l)) (Some (record { name = drop 41 l; object = digits_from 0 (cut 24 16 l) })) r e in
     let q : record { name = drop 41 l; object = digits_from 0 (cut 24 16 l) } ≡ r = some_is t.1 in
     let d : all is_digit (ds₁ l t.0) ≡ true = digits₁ l t.0 in
     let v : digits_from 0 (ds₁ l t.0) < 16 ^ (0 + length (ds₁ l t.0)) = value_below (ds₁ l t.0) d 0 0 (lit< tt) in
@@ -313,9 +313,9 @@ ref_small l r e =
     subst (λ (x : Ref). x.object < 2 ^ 64) q w
 
 -- a line that says a ref is its line, and the name is one
-pub ref_written : (l : List ℕ) (r : Ref) → ref_in l ≡ some r → (l ≡ body_of r) × (is_name r.name ≡ true)
+pub ref_written : (l : List ℕ) (r : Ref) → ref_in l ≡ Some r → (l ≡ body_of r) × (is_name r.name ≡ true)
 unfolding ref_in
 ref_written l r e =
-    let t = cond_some (every (ref_tests l)) (some (record { name = drop 41 l; object = digits_from 0 (cut 24 16 l) })) r e in
+    let t = cond_some (every (ref_tests l)) (Some (record { name = drop 41 l; object = digits_from 0 (cut 24 16 l) })) r e in
     let q : record { name = drop 41 l; object = digits_from 0 (cut 24 16 l) } ≡ r = some_is t.1 in
     (is_body l t.0 ∙ ap body_of q, ap (λ (x : Ref). is_name x.name) (sym q) ∙ every_at (ref_tests l) 3 t.0)

@@ -1,4 +1,5 @@
 -- Rows among which no name stands twice: what the refusal 6 leaves. Assumes nothing.
+use Rattle.std.specs.Prelude.{Option, Some, None, Ok}
 use mathlib.Core.Path.{◌≡◌, refl, sym, ap}
 use mathlib.Core.Bool.{Bool, true, false, ◌||◌, not, cond, true≢false}
 use mathlib.Core.List.{List, [], ◌∷◌, map}
@@ -7,15 +8,12 @@ use native.Mathlib.Omega.{arith}
 use lib.ListN.{length, get_or, length-map, get_or-map}
 use borrow.Author.Tests.{eqb-false, ne_eqb}
 use Rattle.target.specs.declared.NameNumber.{NameNumber}
-use Rattle.target.specs.declared.OptionName.{OptionName}
-use Rattle.target.specs.declared.OptionName.TheVariants.{NoName, Name}
 use Rattle.target.specs.Target.{same_name}
 use Rattle.transaction.specs.declared.Edit.{Edit}
 use Rattle.model.specs.Basic.{any, Below}
 use Rattle.model.specs.Names.{before}
 use Rattle.model.specs.Store.{Store, name_of, no_row}
 use Rattle.model.specs.Rows.{name_in, row_at}
-use Rattle.model.specs.Outcome.Outcome.{pass}
 use Rattle.model.specs.Split.{repeated, lesser, least, or_multiple, one_name_one_edit}
 use Rattle.model.specs.Fine.{apart_rows}
 use Rattle.model.proofs.All.{All, all_at}
@@ -28,21 +26,21 @@ neither false b e = (refl, e)
 
 -- ---- the least of some names is a name
 
-cond_names : (t : Bool) (n m : NameNumber) → cond t (Name n) (Name m) ≡ NoName → ⊥
+cond_names : (t : Bool) (n m : NameNumber) → cond t (Some n) (Some m) ≡ None → ⊥
 cond_names true n m e = no_name (sym e)
 cond_names false n m e = no_name (sym e)
 
-lesser_name : (s : Store) (n : NameNumber) (o : OptionName) → lesser s n o ≡ NoName → ⊥
-lesser_name s n NoName e = no_name (sym e)
-lesser_name s n (Name m) e = cond_names (before (name_of s n) (name_of s m)) n m e
+lesser_name : (s : Store) (n : NameNumber) (o : Option NameNumber) → lesser s n o ≡ None → ⊥
+lesser_name s n None e = no_name (sym e)
+lesser_name s n (Some m) e = cond_names (before (name_of s n) (name_of s m)) n m e
 
-least_none : (s : Store) (ns : List NameNumber) → or_multiple (least s ns) ≡ pass tt → ns ≡ []
+least_none : (s : Store) (ns : List NameNumber) → or_multiple (least s ns) ≡ Ok tt → ns ≡ []
 least_none s [] e = refl
 least_none s (n ∷ ns) e = go (lesser s n (least s ns)) refl e
   where
-    go : (o : OptionName) → lesser s n (least s ns) ≡ o → or_multiple o ≡ pass tt → n ∷ ns ≡ []
-    go NoName p q = absurd (lesser_name s n (least s ns) p)
-    go (Name m) p q = absurd (refuse_pass q)
+    go : (o : Option NameNumber) → lesser s n (least s ns) ≡ o → or_multiple o ≡ Ok tt → n ∷ ns ≡ []
+    go None p q = absurd (lesser_name s n (least s ns) p)
+    go (Some m) p q = absurd (refuse_pass q)
 
 -- ---- no name repeats
 
@@ -69,7 +67,7 @@ names_apart (n ∷ ns) d e (suc i) (suc j) h l = names_apart ns d (repeated_none
 -- ---- of rows
 
 pub rows_apart : (s : Store) (rows : List Edit)
-    → one_name_one_edit s rows ≡ pass tt → (i : ℕ) → i < length rows → Below i (apart_rows rows i)
+    → one_name_one_edit s rows ≡ Ok tt → (i : ℕ) → i < length rows → Below i (apart_rows rows i)
 unfolding one_name_one_edit
 rows_apart s rows e i h j l =
     let q = names_apart (map name_in rows) (name_in no_row) (least_none s _ e) i j (rw length-map h) l in

@@ -1,9 +1,9 @@
 -- Two stores that differ in locks and in new names alone: rows mean the same in both, and the rules go over from one to the other.
 -- Assumes nothing.
+use Rattle.std.specs.Prelude.{Option, Some, None}
 use mathlib.Core.Path.{◌≡◌, refl, sym, ap, ◌∙◌, subst}
 use mathlib.Core.Bool.{Bool, true, false, ◌&&◌, not}
 use mathlib.Core.List.{List}
-use mathlib.Core.Option.{Option}
 use Prim.Native.Nat.{ℕ, ◌≤◌, ◌<◌, ◌^◌}
 use native.Mathlib.Omega.{arith}
 use lib.ListN.{length, get_or-eq_default}
@@ -11,8 +11,6 @@ use lib.Dec.{eqb, ltb}
 use borrow.Author.Tests.{ltb-true, ltb-false, lt-ltb, ne_eqb}
 use Rattle.target.specs.declared.Target.{Target}
 use Rattle.target.specs.declared.Target.TheVariants.{Object, Symbolic}
-use Rattle.target.specs.declared.OptionTarget.{OptionTarget}
-use Rattle.target.specs.declared.OptionTarget.TheVariants.{Absent, Present}
 use Rattle.transaction.specs.declared.PackedRefs.{PackedRefs}
 use Rattle.transaction.specs.declared.Edit.{Edit}
 use Rattle.transaction.specs.Change.{new_value, previous_value, message_of}
@@ -85,9 +83,9 @@ target_grows : (n m : ℕ) → n ≤ m → (t : Target) → fine_target n t ≡ 
 target_grows n m k (Object o) h = h
 target_grows n m k (Symbolic l) h = let q : l.0 < n = ltb-true l.0 n h in lt-ltb l.0 m (omega arith)
 
-option_grows : (n m : ℕ) → n ≤ m → (t : OptionTarget) → fine_option n t ≡ true → fine_option m t ≡ true
-option_grows n m k Absent h = h
-option_grows n m k (Present t) h = target_grows n m k t h
+option_grows : (n m : ℕ) → n ≤ m → (t : Option Target) → fine_option n t ≡ true → fine_option m t ≡ true
+option_grows n m k None h = h
+option_grows n m k (Some t) h = target_grows n m k t h
 
 loose_grows : (n m : ℕ) → n ≤ m → (v : Loose) → fine_loose n v ≡ true → fine_loose m v ≡ true
 loose_grows n m k loose.None h = h

@@ -1,8 +1,8 @@
 -- The store that preparing leaves is sound. Assumes nothing.
+use Rattle.std.specs.Prelude.{Option, Some, None, Ok}
 use mathlib.Core.Path.{◌≡◌, refl, sym, ap, ◌∙◌, subst}
 use mathlib.Core.Bool.{Bool, true, false, ◌&&◌, ◌||◌, cond, and-false, or-false, beq}
 use mathlib.Core.List.{List, [], ◌∷◌, map}
-use mathlib.Core.Option.{Option, none, some}
 use Prim.Native.Nat.{ℕ, ◌+◌, ◌≤◌, ◌<◌}
 use native.Mathlib.Omega.{arith}
 use lib.ListN.{length, get_or, set, length-set}
@@ -17,7 +17,6 @@ use Rattle.model.specs.Store.{no_row, Store, Entry, Prepared, no_entry, count, e
 use Rattle.model.specs.Read.{value_of}
 use Rattle.model.specs.Rows.{name_in, row_at, opens, keeps_lock}
 use Rattle.model.specs.Due.{due_lines}
-use Rattle.model.specs.Outcome.Outcome.{pass}
 use Rattle.model.specs.Fine.{fine_entry, kept_for, fine_lock, Fine}
 use Rattle.model.specs.Prepare.{turns_from, holding, held}
 use Rattle.model.specs.Reached.{agrees, Sound}
@@ -108,7 +107,7 @@ module _ (s : Store) (mode : PackedRefs) where
 
 -- what preparing is to leave of a fine store: its refs and logs, and exactly the locks that the rows keep
 record Holds (p : Prepared) (s t : Store) : Type 0 where
-  prepared : t.prepared ≡ some p
+  prepared : t.prepared ≡ Some p
   refs : SameRefs t s
   locks : (n : ℕ) → n < count s → is_lock Ours (entry_at t n).lock ≡ keeping s p.mode p.rows n
   packed_lock : is_lock Ours t.packed_lock ≡ opens s p.mode p.rows
@@ -189,7 +188,7 @@ held_refs s p = record { refs = holding_refs s p.mode p.rows s.entries; lines = 
 
 -- with nothing prepared before
 
-module _ (s : Store) (f : Fine s) (idle : s.prepared ≡ none) where
+module _ (s : Store) (f : Fine s) (idle : s.prepared ≡ None) where
   -- no lock is ours
   free : (n : ℕ) → n < count s → is_lock Ours (entry_at s n).lock ≡ false
   unfolding fine_lock kept_for
@@ -214,9 +213,9 @@ module _ (s : Store) (f : Fine s) (idle : s.prepared ≡ none) where
 
 -- the rows that pass R3 to R5 and whose due lines fit leave a sound store
 pub held_sound :
-    (s : Store) → Fine s → s.prepared ≡ none
+    (s : Store) → Fine s → s.prepared ≡ None
     → (mode : PackedRefs) (split rows : List Edit) → RowsFine (count s) split
-    → turns_from s mode (opens s mode split) (length split) 0 split ≡ pass rows
+    → turns_from s mode (opens s mode split) (length split) 0 split ≡ Ok rows
     → length s.lines + length (due_lines s rows) ≤ 1024
     → Sound (held (record { mode = mode; rows = rows }) s)
 held_sound s f idle mode split rows g e room = record {

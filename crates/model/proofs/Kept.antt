@@ -1,11 +1,11 @@
 -- The rules are kept: every call, from a store that obeys the rules, leaves one that does; and so of what holds of every
 -- reached store. Assumes nothing.
+use Rattle.std.specs.Prelude.{Result, Ok, Err}
+use Rattle.model.specs.declared.Refusal.{Refusal}
 use mathlib.Core.Path.{◌≡◌, refl}
 use mathlib.Core.List.{List}
 use Prim.Native.Nat.{ℕ}
 use Rattle.model.specs.Store.{Store, Prepared, empty}
-use Rattle.model.specs.Outcome.{Outcome}
-use Rattle.model.specs.Outcome.Outcome.{refuse, pass}
 use Rattle.model.specs.Prepare.{rows_for}
 use Rattle.model.specs.Fine.{Fine}
 use Rattle.model.specs.Reply.{Call}
@@ -46,9 +46,9 @@ module _ (P : Store → Type 0) (rule : Rule P) (holds : (s : Store) → Sound s
   unfolding step rows_prepared
   prepare_kept list mode = go (rows_for list mode s) refl
     where
-      go : (o : Outcome Prepared) → rows_for list mode s ≡ o → P (leaves (step (prepare list mode) s) s)
-      go (refuse r) e = rw e here
-      go (pass q) e = rw e (holds _ (prepare_sound s (rule.fine s here) list mode q e))
+      go : (o : Result Prepared Refusal) → rows_for list mode s ≡ o → P (leaves (step (prepare list mode) s) s)
+      go (Err r) e = rw e here
+      go (Ok q) e = rw e (holds _ (prepare_sound s (rule.fine s here) list mode q e))
 
   all_kept : (c : Call) → P (leaves (step c s) s)
   all_kept = call_kept P rule s here prepare_kept

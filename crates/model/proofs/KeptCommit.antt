@@ -1,8 +1,9 @@
 -- Commit keeps the rules, wherever it stops, and what holds of every reached store. Assumes nothing.
+use Rattle.std.specs.Prelude.{Option, Some, None}
+use Rattle.target.specs.declared.Target.{Target}
 use mathlib.Core.Path.{◌≡◌, refl, sym, ap, ◌∙◌, subst, subst₂, fun_ext}
 use mathlib.Core.Bool.{Bool, true, false, ◌&&◌, ◌||◌, not, cond, false≢true}
 use mathlib.Core.List.{List, [], ◌∷◌, ◌++◌, map}
-use mathlib.Core.Option.{Option, none, some}
 use mathlib.Core.Logic.{◌⊎◌}
 use mathlib.Core.Logic.◌⊎◌.{inl, inr}
 use Prim.Native.Nat.{ℕ, zero, suc, ◌+◌, ◌≤◌, ◌<◌, ◌^◌}
@@ -13,8 +14,6 @@ use borrow.Author.Tests.{ltb-false, lt-ltb, eqb-false}
 use Rattle.target.specs.declared.NameNumber.{NameNumber}
 use Rattle.target.specs.declared.ObjectNumber.{ObjectNumber}
 use Rattle.target.specs.declared.Target.TheVariants.{Object, Symbolic}
-use Rattle.target.specs.declared.OptionTarget.{OptionTarget}
-use Rattle.target.specs.declared.OptionTarget.TheVariants.{Absent, Present}
 use Rattle.target.specs.Target.{same_object}
 use Rattle.transaction.specs.declared.PreviousValue.{PreviousValue}
 use Rattle.transaction.specs.declared.PreviousValue.TheVariants.{Any, MustExist, MustNotExist, MustExistAndMatch, ExistingMustMatch}
@@ -23,7 +22,6 @@ use Rattle.transaction.specs.declared.Change.TheVariants.{Update, Delete}
 use Rattle.transaction.specs.declared.PackedRefs.{PackedRefs}
 use Rattle.transaction.specs.declared.Edit.{Edit}
 use Rattle.transaction.specs.Change.{new_value, previous_value, is_delete, is_log_only, id_of, matched, expected_target}
-use Rattle.model.specs.declared.Packed.{Packed}
 use Rattle.model.specs.declared.Loose.TheVariants as loose
 use Rattle.model.specs.declared.Line.{Line}
 use Rattle.model.specs.Basic.{is_empty, select, collect}
@@ -103,7 +101,7 @@ applied_count (p ∷ ps) es =
     ∙ changed_count (put_packed p.value) p.name.0 es
 
 -- packed values leave what else an entry has
-pub applied_keeps : {A : Type 0} (g : Entry → A) → ((v : Packed) (e : Entry) → g (put_packed v e) ≡ g e) → (ps : List PackedEdit) (es : List Entry) (n : ℕ)
+pub applied_keeps : {A : Type 0} (g : Entry → A) → ((v : Option ObjectNumber) (e : Entry) → g (put_packed v e) ≡ g e) → (ps : List PackedEdit) (es : List Entry) (n : ℕ)
     → g (get_or (apply_packed ps es) n no_entry) ≡ g (get_or es n no_entry)
 applied_keeps g h [] es n = refl
 applied_keeps g h (p ∷ ps) es n =
@@ -227,9 +225,9 @@ lines_collect : {A B : Type 0} (f : A → List Write) (g : A → List B) → ((a
 lines_collect f g h [] = refl
 lines_collect f g h (x ∷ xs) = rw (lines_append, length-append, h x, lines_collect f g h xs)
 
-loose_lines : (t : Bool) (n : NameNumber) (v : OptionTarget) → lines_in (cond t (loose_write n v) []) ≡ 0
-loose_lines true n Absent = refl
-loose_lines true n (Present v) = refl
+loose_lines : (t : Bool) (n : NameNumber) (v : Option Target) → lines_in (cond t (loose_write n v) []) ≡ 0
+loose_lines true n None = refl
+loose_lines true n (Some v) = refl
 loose_lines false n v = refl
 
 all_lines : (ls : List Line) → lines_in (map append_line ls) ≡ length ls
@@ -284,7 +282,7 @@ line_fine : (n : ℕ) (stamp : Stamp) (r : Edit) → FineEdit n r → stamp.comm
     → (m : Move) → FineMove m → fine_line n (line_by stamp r m) ≡ true
 unfolding fine_line
 line_fine n stamp r f small there m h =
-    let some : stamp.committer ≡ 0 → ⊥ = eqb-false stamp.committer 0 there in
+    let Some : stamp.committer ≡ 0 → ⊥ = eqb-false stamp.committer 0 there in
     true_both f.name
     (true_both h.0
     (true_both h.1
@@ -303,11 +301,11 @@ will_write_lem s mode r e u =
     true_both (true_both (true_both (ap not u) inner.1) outer.1) inner.0
 
 -- a packed value that commit sets
-set_fit : (c : ℕ) (bytes : ℕ → List ℕ) (n : NameNumber) (v : OptionTarget) → packable (bytes n.0) ≡ true → fine_option c v ≡ true
+set_fit : (c : ℕ) (bytes : ℕ → List ℕ) (n : NameNumber) (v : Option Target) → packable (bytes n.0) ≡ true → fine_option c v ≡ true
     → Each (FinePacked bytes) (packed_set n v)
-set_fit c bytes n Absent p h = tt
-set_fit c bytes n (Present (Object o)) p h = (true_both h p, tt)
-set_fit c bytes n (Present (Symbolic m)) p h = tt
+set_fit c bytes n None p h = tt
+set_fit c bytes n (Some (Object o)) p h = (true_both h p, tt)
+set_fit c bytes n (Some (Symbolic m)) p h = tt
 
 module _ (stamp : Stamp) (small : stamp.committer ≤ 65535) (may : ℕ → Type 0) (s : Store) (mode : PackedRefs) where
   -- a write that fits unless commit stops before it, and one that fits and is no line
@@ -450,8 +448,8 @@ committing_kept s f stamp small k =
 
 module _ (P : Store → Type 0) (rule : Rule P) (s : Store) (here : P s) where
   ended_kept : (r : Run) → Kept r.store → (o : Option Stop) → P (leaves (ended r o) s)
-  ended_kept r b none = released_kept P rule r.store b.base b.alone
-  ended_kept r b (some why) = released_kept P rule r.store b.base b.alone
+  ended_kept r b None = released_kept P rule r.store b.base b.alone
+  ended_kept r b (Some why) = released_kept P rule r.store b.base b.alone
 
   pub commit_kept : (c k : ℕ) → P (leaves (step (commit c k) s) s)
   unfolding step committed

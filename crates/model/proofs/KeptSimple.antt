@@ -1,8 +1,9 @@
 -- Every call but prepare and commit keeps the rules, and what holds of every reached store. Assumes nothing.
+use Rattle.std.specs.Prelude.{Option, Some, None, Result, Ok, Err}
+use Rattle.target.specs.declared.ObjectNumber.{ObjectNumber}
 use mathlib.Core.Path.{◌≡◌, refl}
 use mathlib.Core.Bool.{Bool, true, false, ◌&&◌, not, cond, false≢true}
 use mathlib.Core.List.{List, [], ◌∷◌, ◌++◌}
-use mathlib.Core.Option.{Option, none, some}
 use mathlib.Core.Logic.{◌⊎◌}
 use mathlib.Core.Logic.◌⊎◌.{inl, inr}
 use Prim.Native.Nat.{ℕ, zero, suc, ◌+◌, ◌≤◌, ◌<◌}
@@ -12,7 +13,6 @@ use lib.Seq.{get_or-append_seam}
 use lib.Dec.{eqb, ltb, leb}
 use borrow.Author.Tests.{ltb-true, ltb-false, not-false, eqb-true, leb-false}
 use Rattle.model.specs.declared.Loose.{Loose}
-use Rattle.model.specs.declared.Packed.{Packed}
 use Rattle.model.specs.declared.Lock.{Lock}
 use Rattle.model.specs.declared.Lock.TheVariants.{Free, Foreign, Ours}
 use Rattle.model.specs.declared.Lockable.{Lockable}
@@ -22,8 +22,7 @@ use Rattle.model.specs.declared.Refusal.{Refusal}
 use Rattle.model.specs.declared.Refusal.TheVariants.{Malformed}
 use Rattle.model.specs.Names.{is_name, same_bytes, packable}
 use Rattle.model.specs.Store.{Store, Entry, no_entry, empty, count, entry_at, rows_in, is_prepared, is_lock, is_id, is_none, lock_byte, lines_of, put_loose, put_packed, put_lock, change_entry, with_entries, with_packed_lock}
-use Rattle.model.specs.Outcome.{Outcome, refuse_if, or_refuse}
-use Rattle.model.specs.Outcome.Outcome.{refuse, pass}
+use Rattle.model.specs.Outcome.{refuse_if, or_refuse}
 use Rattle.model.specs.Fine.{Fine, apart_names, fine_entry, fine_loose, fine_packed}
 use Rattle.model.specs.Reply.{Reply, ◌>>=◌, ◌>>◌, known}
 use Rattle.model.specs.Reply.Call.{start, add_name, name_bytes, load_loose, load_packed, place_lock, lift_lock, rollback, read_name, read_line, read_row}
@@ -42,7 +41,7 @@ use Rattle.model.proofs.Grown.{line_grows, entry_grows, Alike, Held, alike_fine,
 -- over to a store that differs in locks of others and in new names alone
 pub record Rule (P : Store → Type 0) : Type 0 where
   pub fine : (s : Store) → P s → Fine s
-  pub idle : (s : Store) → Fine s → s.prepared ≡ none → P s
+  pub idle : (s : Store) → Fine s → s.prepared ≡ None → P s
   pub alike : (s t : Store) → P s → Alike s t → Held s t → Base t → P t
 
 pub rule_fine : Rule Fine
@@ -58,15 +57,15 @@ released_kept P rule s b a = rule.idle (released s) (released_fine s b a) refl
 
 -- what is given, if anything is, passes the test
 abbrev pub in_any : {A : Type 0} → (A → Bool) → Option A → Bool
-in_any p none = true
-in_any p (some a) = p a
+in_any p None = true
+in_any p (Some a) = p a
 
 -- ---- a reply leaves a good store where each of its ends does: a refusal leaves what was there
 
 module _ (P : Store → Type 0) (s : Store) (here : P s) where
-  pub passed : {A : Type 0} (m : Outcome A) (f : A → Reply) → ((a : A) → m ≡ pass a → P (leaves (f a) s)) → P (leaves (m >>= f) s)
-  passed (refuse r) f h = here
-  passed (pass a) f h = h a refl
+  pub passed : {A : Type 0} (m : Result A Refusal) (f : A → Reply) → ((a : A) → m ≡ Ok a → P (leaves (f a) s)) → P (leaves (m >>= f) s)
+  passed (Err r) f h = here
+  passed (Ok a) f h = h a refl
 
   pub tested : (t : Bool) (why : Refusal) (r : Reply) → (t ≡ false → P (leaves r s)) → P (leaves (refuse_if t why >> r) s)
   tested true why r h = here
@@ -74,8 +73,8 @@ module _ (P : Store → Type 0) (s : Store) (here : P s) where
 
   pub taken : {A : Type 0} (p : A → Bool) (o : Option A) (why : Refusal) (f : A → Reply) → in_any p o ≡ true
       → ((a : A) → p a ≡ true → P (leaves (f a) s)) → P (leaves (or_refuse why o >>= f) s)
-  taken p none why f e h = here
-  taken p (some a) why f e h = h a e
+  taken p None why f e h = here
+  taken p (Some a) why f e h = h a e
 
 -- ---- the calls, for whatever obeys the rule
 
@@ -92,7 +91,7 @@ empty_fine setting = idle_fine (empty setting) nothing (record { alone = λ n m 
           lines = λ n h. absurd (omega arith);
         }
 
-in_cond : {A : Type 0} (p : A → Bool) (t : Bool) (a : A) → (t ≡ true → p a ≡ true) → in_any p (cond t (some a) none) ≡ true
+in_cond : {A : Type 0} (p : A → Bool) (t : Bool) (a : A) → (t ≡ true → p a ≡ true) → in_any p (cond t (Some a) None) ≡ true
 in_cond p true a h = h refl
 in_cond p false a h = refl
 
@@ -110,7 +109,7 @@ packed_fine bytes (suc zero) x = in_cond _ (is_id x && packable bytes) _ (λ h. 
 packed_fine bytes (suc (suc k)) x = refl
 
 -- a name that no entry has is another than that of every entry
-number_none : (i : ℕ) (bytes : List ℕ) (es : List Entry) → number_from i bytes es ≡ none → (n : ℕ) → n < length es
+number_none : (i : ℕ) (bytes : List ℕ) (es : List Entry) → number_from i bytes es ≡ None → (n : ℕ) → n < length es
     → same_bytes bytes (get_or es n no_entry).name ≡ false
 number_none i bytes [] e n h = absurd (omega arith)
 number_none i bytes (x ∷ xs) e n h = go (same_bytes bytes x.name) refl (number_none (i + 1) bytes xs) n h
@@ -118,12 +117,12 @@ number_none i bytes (x ∷ xs) e n h = go (same_bytes bytes x.name) refl (number
     other : List Entry → Type 0
     other es = (m : ℕ) → m < length es → same_bytes bytes (get_or es m no_entry).name ≡ false
 
-    go : (t : Bool) → same_bytes bytes x.name ≡ t → (number_from (i + 1) bytes xs ≡ none → other xs) → other (x ∷ xs)
-    go true q rec m h = let f : some i ≡ none = rw q at e in absurd (let z : ◌≡◌ {A = ℕ} 0 1 = cc in omega arith)
+    go : (t : Bool) → same_bytes bytes x.name ≡ t → (number_from (i + 1) bytes xs ≡ None → other xs) → other (x ∷ xs)
+    go true q rec m h = let f : Some i ≡ None = rw q at e in absurd (let z : ◌≡◌ {A = ℕ} 0 1 = cc in omega arith)
     go false q rec zero h = q
     go false q rec (suc m) h = rec (rw q at e) m (omega arith)
 
-base_added : (s : Store) (bytes : List ℕ) → Base s → is_name bytes ≡ true → number_from 0 bytes s.entries ≡ none → count s < 256
+base_added : (s : Store) (bytes : List ℕ) → Base s → is_name bytes ≡ true → number_from 0 bytes s.entries ≡ None → count s < 256
     → Base (with_entries s (s.entries ++ (new_entry bytes ∷ [])))
 unfolding fine_entry
 base_added s bytes b e o h =
@@ -160,7 +159,7 @@ base_added s bytes b e o h =
         rw (new, get_or-append_seam s.entries (new_entry bytes) [] no_entry, old_at m old, number_none 0 bytes s.entries o m old)
 
 -- a packed value makes no name loose
-packed_fewer : (s : Store) (n : ℕ) (v : Packed) → Fewer s (change_entry (put_packed v) n s)
+packed_fewer : (s : Store) (n : ℕ) (v : Option ObjectNumber) → Fewer s (change_entry (put_packed v) n s)
 packed_fewer s n v = record {
   name = λ m h. changed_keeps (λ x. x.name) (put_packed v) n m s.entries refl;
   loose = λ m h. rw (changed_keeps (λ x. x.loose) (put_packed v) n m s.entries refl) at h;
@@ -180,13 +179,13 @@ loaded_alone s n v a h = record { alone = λ m k p q. rw (name m, name k) (go m 
     was : (m : ℕ) → is_loose (change_entry (put_loose v) n s) m ≡ true → Was m
     was m = changed_at (λ x. not (is_none x.loose) ≡ true → Was m) (put_loose v) n m s.entries (λ p. inl p) (λ e p. inr (e, p))
 
-    none : not (is_none v) ≡ true → (loose_above s n ≡ false) × (loose_beneath s n ≡ false)
-    none p = neither _ _ (not_and (not (is_none v)) _ h p)
+    None : not (is_none v) ≡ true → (loose_above s n ≡ false) × (loose_beneath s n ≡ false)
+    None p = neither _ _ (not_and (not (is_none v)) _ h p)
 
     go : (m k : ℕ) → Was m → Was k → lies s m k ≡ false
     go m k (inl p) (inl q) = a.alone m k p q
-    go m k (inl p) (inr (e, q)) = rw (← e) (beneath_not s n (none q).1 m p)
-    go m k (inr (e, p)) (inl q) = rw (← e) (above_not s n (none p).0 k q)
+    go m k (inl p) (inr (e, q)) = rw (← e) (beneath_not s n (None q).1 m p)
+    go m k (inr (e, p)) (inl q) = rw (← e) (above_not s n (None p).0 k q)
     go m k (inr (e, p)) (inr (d, q)) = rw (← e, ← d) (not_itself (entry_at s n).name)
 
 -- a lock that was not ours and is not becomes no more ours
@@ -236,7 +235,7 @@ module _ (P : Store → Type 0) (rule : Rule P) (s : Store) (here : P s) where
   -- ---- loads
 
   -- with nothing prepared, an entry is changed to a fine one with the same name and lock
-  changed : (f : Entry → Entry) (n : ℕ) → s.prepared ≡ none → (f (entry_at s n)).name ≡ (entry_at s n).name
+  changed : (f : Entry → Entry) (n : ℕ) → s.prepared ≡ None → (f (entry_at s n)).name ≡ (entry_at s n).name
       → (f (entry_at s n)).lock ≡ (entry_at s n).lock → fine_entry (count s) (f (entry_at s n)) ≡ true → Alone (change_entry f n s)
       → P (change_entry f n s)
   changed f n e name lock fine alone =
@@ -318,7 +317,7 @@ module _ (P : Store → Type 0) (rule : Rule P) (s : Store) (here : P s) where
 
   -- ---- names
 
-  added : (name : List ℕ) → is_name name ≡ true → number_from 0 name s.entries ≡ none → count s < 256
+  added : (name : List ℕ) → is_name name ≡ true → number_from 0 name s.entries ≡ None → count s < 256
       → P (with_entries s (s.entries ++ (new_entry name ∷ [])))
   added name e o h =
       rule.alike s (with_entries s (s.entries ++ (new_entry name ∷ []))) here
@@ -342,5 +341,5 @@ module _ (P : Store → Type 0) (rule : Rule P) (s : Store) (here : P s) where
   add_name_kept bytes = past (not (is_name bytes)) _ _ (λ e. go (not-false _ e) (number_from 0 bytes s.entries) refl)
     where
       go : is_name bytes ≡ true → (o : Option ℕ) → number_from 0 bytes s.entries ≡ o → P (leaves (added_as bytes s o) s)
-      go e none q = past (leb 256 (count s)) _ _ (λ h. added bytes e q (leb-false 256 (count s) h))
-      go e (some n) q = here
+      go e None q = past (leb 256 (count s)) _ _ (λ h. added bytes e q (leb-false 256 (count s) h))
+      go e (Some n) q = here

@@ -1,19 +1,17 @@
 -- Reading a text keeps the rules, and what holds of every reached store; writing one changes nothing. Assumes nothing.
+use Rattle.std.specs.Prelude.{Option, Some, None, Ok}
 use mathlib.Core.Path.{◌≡◌, refl, ap, subst, ◌∙◌}
 use mathlib.Core.Bool.{Bool, true, false}
 use mathlib.Core.List.{List, [], ◌∷◌, ◌++◌, map}
-use mathlib.Core.Option.{Option, none, some}
 use Prim.Native.Nat.{ℕ, ◌+◌, ◌<◌}
 use native.Mathlib.Omega.{arith}
 use lib.ListN.{length, get_or, length-append, length-map}
 use lib.Seq.{get_or-append_seam}
 use lib.Dec.{ltb, leb}
 use borrow.Author.Tests.{lt-ltb}
-use Rattle.model.specs.declared.Packed.TheVariants as packed
 use Rattle.model.specs.declared.Lock.TheVariants.{Ours}
 use Rattle.model.specs.Names.{pieces}
 use Rattle.model.specs.Store.{Store, Entry, no_entry, count, entry_at, is_prepared, is_lock, put_packed, with_entries}
-use Rattle.model.specs.Outcome.Outcome.{pass}
 use Rattle.model.specs.Reply.Call.{add_name, load_packed, write_packed, read_packed}
 use Rattle.model.specs.Load.{number_from, new_entry, name_added, packed_loaded}
 use Rattle.model.specs.PackedText.{Ref, packed_text, line_feed, read_text, unpacked, packed_as, ref_loaded_as, ref_loaded, loaded, judged}
@@ -37,11 +35,11 @@ module _ (r : Ref) (can : Loadable r) (t : Store) where
   unfolding step packed_loaded
   as_load n e h name = rw (e, lt-ltb n (count t) h, name, can.id, can.packs)
 
-  as_add : number_from 0 r.name t.entries ≡ none → leb 256 (count t) ≡ false → leaves (step (add_name r.name) t) t ≡ with_name r t
+  as_add : number_from 0 r.name t.entries ≡ None → leb 256 (count t) ≡ false → leaves (step (add_name r.name) t) t ≡ with_name r t
   unfolding step name_added
   as_add o p = rw (can.name, o, p)
 
-ref_prepared : (r : Ref) (t u : Store) → ref_loaded r t ≡ pass u → u.prepared ≡ t.prepared
+ref_prepared : (r : Ref) (t u : Store) → ref_loaded r t ≡ Ok u → u.prepared ≡ t.prepared
 ref_prepared r t u e = ap (λ (x : Store). x.prepared) (put_is r t u e)
 
 unpacked_idle : (s : Store) → is_prepared s.prepared ≡ false → is_prepared (unpacked s).prepared ≡ false
@@ -51,7 +49,7 @@ unpacked_idle s e = e
 module _ (P : Store → Type 0) (rule : Rule P) where
   -- ---- no packed values
 
-  unpacked_kept : (s : Store) → P s → s.prepared ≡ none → P (unpacked s)
+  unpacked_kept : (s : Store) → P s → s.prepared ≡ None → P (unpacked s)
   unfolding unpacked
   unpacked_kept s here e =
       rule.idle (unpacked s)
@@ -60,8 +58,8 @@ module _ (P : Store → Type 0) (rule : Rule P) where
       free.1)
       e
     where
-      at : (n : ℕ) → get_or (map (put_packed packed.None) s.entries) n no_entry ≡ put_packed packed.None (entry_at s n)
-      at n = mapped_at (put_packed packed.None) refl n s.entries
+      at : (n : ℕ) → get_or (map (put_packed None) s.entries) n no_entry ≡ put_packed None (entry_at s n)
+      at n = mapped_at (put_packed None) refl n s.entries
 
       free : ((m : ℕ) → m < count s → is_lock Ours (entry_at s m).lock ≡ false) × (is_lock Ours s.packed_lock ≡ false)
       free = idle_free s (rule.fine s here) e
@@ -70,7 +68,7 @@ module _ (P : Store → Type 0) (rule : Rule P) where
       bases =
           base_changed s (unpacked s) (base s (rule.fine s here)) (length-map s.entries _)
           (λ n h. rw (at n))
-          (λ n h. rw (at n) (entry_packed (count s) (entry_at s n) packed.None ((rule.fine s here).entries n h) refl))
+          (λ n h. rw (at n) (entry_packed (count s) (entry_at s n) None ((rule.fine s here).entries n h) refl))
           (rule.fine s here).short
           (rule.fine s here).lines
 
@@ -80,31 +78,31 @@ module _ (P : Store → Type 0) (rule : Rule P) where
     packed_kept : (t : Store) → P t → is_prepared t.prepared ≡ false → (n : ℕ) → n < count t → (entry_at t n).name ≡ r.name → P (packed_as r n t)
     packed_kept t here e n h name = subst P (as_load r can t n e h name) (load_packed_kept P rule t here n 1 r.object)
 
-    new_kept : (t : Store) → P t → is_prepared t.prepared ≡ false → number_from 0 r.name t.entries ≡ none → leb 256 (count t) ≡ false
+    new_kept : (t : Store) → P t → is_prepared t.prepared ≡ false → number_from 0 r.name t.entries ≡ None → leb 256 (count t) ≡ false
         → P (packed_as r (count t) (with_name r t))
     new_kept t here e o p =
         packed_kept (with_name r t) (subst P (as_add r can t o p) (add_name_kept P rule t here r.name)) e (count t)
         (rw length-append (omega arith))
         (ap (λ (x : Entry). x.name) (get_or-append_seam t.entries (new_entry r.name) [] no_entry))
 
-    ref_kept : (t u : Store) → P t → is_prepared t.prepared ≡ false → ref_loaded r t ≡ pass u → P u
+    ref_kept : (t u : Store) → P t → is_prepared t.prepared ≡ false → ref_loaded r t ≡ Ok u → P u
     unfolding ref_loaded
     ref_kept t u here e q = go (number_from 0 r.name t.entries) refl q
       where
-        new : number_from 0 r.name t.entries ≡ none → (b : Bool) → leb 256 (count t) ≡ b → ref_loaded_as r t none ≡ pass u → P u
+        new : number_from 0 r.name t.entries ≡ None → (b : Bool) → leb 256 (count t) ≡ b → ref_loaded_as r t None ≡ Ok u → P u
         new o true p q = absurd (refuse_pass (rw p at q))
         new o false p q = subst P (pass_is (rw p at q)) (new_kept t here e o p)
 
-        go : (o : Option ℕ) → number_from 0 r.name t.entries ≡ o → ref_loaded_as r t o ≡ pass u → P u
-        go (some n) o q =
+        go : (o : Option ℕ) → number_from 0 r.name t.entries ≡ o → ref_loaded_as r t o ≡ Ok u → P u
+        go (Some n) o q =
             let f : Found r t.entries 0 n = number_found r t.entries 0 n o in
             let a : n ≡ 0 + f.place = f.at in
             let b : f.place ≡ n = omega arith in
             subst P (pass_is q)
             (packed_kept t here e n (subst (λ (k : ℕ). k < count t) b f.near) (subst (λ (k : ℕ). (entry_at t k).name ≡ r.name) b f.name))
-        go none o q = new o (leb 256 (count t)) refl q
+        go None o q = new o (leb 256 (count t)) refl q
 
-  loaded_kept : (rs : List Ref) (last : List ℕ) (t u : Store) → Chain last rs → P t → is_prepared t.prepared ≡ false → loaded rs t ≡ pass u → P u
+  loaded_kept : (rs : List Ref) (last : List ℕ) (t u : Store) → Chain last rs → P t → is_prepared t.prepared ≡ false → loaded rs t ≡ Ok u → P u
   unfolding loaded
   loaded_kept [] last t u c here e q = subst P (pass_is q) here
   loaded_kept (r ∷ rs) last t u c here e q =

@@ -1,4 +1,5 @@
 -- 2026-05: the two lock calls do what the four did. Assumes nothing.
+use Rattle.std.specs.Prelude.{Ok, Err}
 use mathlib.Core.Path.{◌≡◌, refl}
 use mathlib.Core.Bool.{Bool, true, false, not, cond}
 use Prim.Native.Nat.{ℕ, zero, suc}
@@ -10,7 +11,6 @@ use Rattle.model.specs.declared.Lockable.TheVariants.{Name}
 use Rattle.model.specs.declared.Refusal.TheVariants.{NotRegistered, WrongLock}
 use Rattle.model.specs.Store.{Store, count, entry_at, is_lock, put_lock, change_entry}
 use Rattle.model.specs.Outcome.{refuse_if}
-use Rattle.model.specs.Outcome.Outcome.{refuse, pass}
 use Rattle.model.specs.Reply.{Reply, ◌>>=◌, ◌>>◌, known}
 use Rattle.model.specs.Reply.Reply.{done}
 use Rattle.model.specs.Reply.Given.{nothing}
@@ -31,7 +31,7 @@ named must becomes n s = go (ltb n (count s))
     found : Lockable → Reply
     found what = refuse_if (not (is_lock must (lock_of what s))) WrongLock >> done (set_lock what becomes s) nothing
 
-    go : (b : Bool) → (cond b (pass (Name (record { 0 = n }))) (refuse (NotRegistered n)) >>= found) ≡ (refuse_if (not b) (NotRegistered n) >> rest)
+    go : (b : Bool) → (cond b (Ok (Name (record { 0 = n }))) (Err (NotRegistered n)) >>= found) ≡ (refuse_if (not b) (NotRegistered n) >> rest)
     go true = refl
     go false = refl
 

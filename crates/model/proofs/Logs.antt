@@ -1,4 +1,6 @@
 -- The log of a deleted name is gone once W1 and W2 are made. Assumes nothing.
+use Rattle.std.specs.Prelude.{Option, Some, None}
+use Rattle.target.specs.declared.Target.{Target}
 use mathlib.Core.Path.{◌≡◌, refl, ◌∙◌}
 use mathlib.Core.Bool.{Bool, true, false, false≢true, ◌&&◌, not, cond}
 use mathlib.Core.List.{List, [], ◌∷◌, ◌++◌, map, append-nil, append_assoc}
@@ -8,8 +10,6 @@ use lib.Dec.{eqb}
 use borrow.Author.Tests.{eqb-true, eqb-false, eq-eqb, ne_eqb}
 use Rattle.target.specs.declared.NameNumber.{NameNumber}
 use Rattle.target.specs.declared.ObjectNumber.{ObjectNumber}
-use Rattle.target.specs.declared.OptionTarget.{OptionTarget}
-use Rattle.target.specs.declared.OptionTarget.TheVariants.{Absent, Present}
 use Rattle.transaction.specs.declared.Change.{Change}
 use Rattle.transaction.specs.declared.Change.TheVariants.{Update, Delete}
 use Rattle.transaction.specs.declared.PackedRefs.{PackedRefs}
@@ -31,9 +31,9 @@ use Rattle.model.proofs.Phases.{Alone}
 
 -- ---- what leaves a log
 
-quiet_loose : (n k : NameNumber) (v : OptionTarget) → Quiet (log_by n) (loose_write k v)
-quiet_loose n k Absent = quiet_none
-quiet_loose n k (Present t) = quiet_cons (λ l. refl) quiet_none
+quiet_loose : (n k : NameNumber) (v : Option Target) → Quiet (log_by n) (loose_write k v)
+quiet_loose n k None = quiet_none
+quiet_loose n k (Some t) = quiet_cons (λ l. refl) quiet_none
 
 -- lines of another name
 quiet_moves : (n : NameNumber) (stamp : Stamp) (r : Edit) → ((name_in r).0 ≡ n.0 → ⊥)

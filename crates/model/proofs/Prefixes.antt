@@ -1,4 +1,5 @@
 -- What names read, and what logs are left, after the first m of the ordered writes. Assumes nothing.
+use Rattle.std.specs.Prelude.{None}
 use mathlib.Core.Path.{◌≡◌, refl, sym, ap, ◌∙◌}
 use mathlib.Core.Bool.{Bool, true, false}
 use mathlib.Core.List.{[]}
@@ -9,7 +10,6 @@ use lib.ListN.{length, take, length-append}
 use lib.Dec.{ltb}
 use borrow.Author.Tests.{ltb-true, ltb-false, eq-eqb}
 use Rattle.target.specs.declared.NameNumber.{NameNumber}
-use Rattle.target.specs.declared.OptionTarget.TheVariants.{Absent}
 use Rattle.target.proofs.Laws.{name_true}
 use Rattle.transaction.specs.Change.{is_delete}
 use Rattle.transaction.specs.Fields.{packed_refs_number}
@@ -74,19 +74,19 @@ all_new_lem s sound stamp m i h le = settled (shown s sound stamp i h) m le
 
 -- Such a deletion shows only once W1 and W2 are made.
 after_front : (s : Store) → Sound s → (stamp : Stamp) (m i : ℕ) → i < length (rows s) → Deletes s (row_at (rows s) i)
-    → reading (made stamp m s) (name_in (row_at (rows s) i)) ≡ Absent → length (front_writes stamp s) ≤ m
+    → reading (made stamp m s) (name_in (row_at (rows s) i)) ≡ None → length (front_writes stamp s) ≤ m
 after_front s sound stamp m i h d e = past (shown_delete s sound stamp i h d.is_delete) m (λ k. d.present (sym k ∙ e))
 
 -- A deleted name that read present before has no log line once it reads absent.
 pub no_log_left : (s : Store) → Sound s → (stamp : Stamp) (m i : ℕ) → i < length (rows s) → Deletes s (row_at (rows s) i)
-    → reading (made stamp m s) (name_in (row_at (rows s) i)) ≡ Absent → lines_of (made stamp m s) (name_in (row_at (rows s) i)) ≡ []
+    → reading (made stamp m s) (name_in (row_at (rows s) i)) ≡ None → lines_of (made stamp m s) (name_in (row_at (rows s) i)) ≡ []
 no_log_left s sound stamp m i h d e =
     log_gone stamp s (mode_in s.prepared) (rows s) i h (alone s sound.fine i h) d.is_delete m (after_front s sound stamp m i h d e)
 
 -- In modes 1 and 2, if such a deletion shows, every update shows.
 pub updates_first_lem : (s : Store) → Sound s → packed_refs_number (mode_in s.prepared) ≤ 2
     → (stamp : Stamp) (m i j : ℕ) → i < length (rows s) → j < length (rows s)
-    → Deletes s (row_at (rows s) i) → reading (made stamp m s) (name_in (row_at (rows s) i)) ≡ Absent
+    → Deletes s (row_at (rows s) i) → reading (made stamp m s) (name_in (row_at (rows s) i)) ≡ None
     → is_delete (change_in (row_at (rows s) j)) ≡ false
     → reading (made stamp m s) (name_in (row_at (rows s) j)) ≡ new s (row_at (rows s) j)
 updates_first_lem s sound mode stamp m i j h g d e u =

@@ -1,9 +1,9 @@
 -- What releasing leaves of a store: everything but the transaction and the locks that were ours. Writes leave locks alone.
 -- Assumes nothing.
+use Rattle.std.specs.Prelude.{None}
 use mathlib.Core.Path.{◌≡◌, refl, ap, ◌∙◌}
 use mathlib.Core.Bool.{false}
 use mathlib.Core.List.{List, [], ◌∷◌, map}
-use mathlib.Core.Option.{none}
 use Prim.Native.Nat.{ℕ, zero, suc}
 use lib.ListN.{get_or, get_or-map}
 use Rattle.target.specs.declared.NameNumber.{NameNumber}
@@ -76,7 +76,7 @@ module _ (s : Store) where
   unfolding released
   released_log = refl
 
-  pub released_gone : (released s).prepared ≡ none
+  pub released_gone : (released s).prepared ≡ None
   unfolding released
   released_gone = refl
 

@@ -1,5 +1,6 @@
 -- The rounds of splitting keep rows fine: settled rows follow no name any more and have at most four ancestors, and the newest
 -- rows have their parents among the settled ones. Assumes nothing.
+use Rattle.std.specs.Prelude.{Option, Some, None, Ok}
 use mathlib.Core.Path.{◌≡◌, refl, ap, subst, ◌∙◌}
 use mathlib.Core.Bool.{Bool, true, false, cond}
 use mathlib.Core.List.{List, [], ◌∷◌, ◌++◌, map}
@@ -12,8 +13,6 @@ use lib.Dec.{ltb}
 use borrow.Author.Tests.{ltb-true, ltb-false, lt-ltb}
 use Rattle.target.specs.declared.NameNumber.{NameNumber}
 use Rattle.target.specs.declared.Target.TheVariants.{Object, Symbolic}
-use Rattle.target.specs.declared.OptionName.{OptionName}
-use Rattle.target.specs.declared.OptionName.TheVariants.{NoName, Name}
 use Rattle.transaction.specs.declared.Change.{Change}
 use Rattle.transaction.specs.declared.Change.TheVariants.{Update, Delete}
 use Rattle.transaction.specs.declared.RefEdit.{RefEdit}
@@ -24,7 +23,6 @@ use Rattle.model.specs.declared.Loose.TheVariants as loose
 use Rattle.model.specs.Names.{is_name}
 use Rattle.model.specs.Store.{Store, Entry, count, entry_of, no_row}
 use Rattle.model.specs.Rows.{name_in, change_in, row_at}
-use Rattle.model.specs.Outcome.Outcome.{pass}
 use Rattle.model.specs.Split.{link_in, referent, parent_change, settled, child_of, settle_all, children_from, rounds, splits}
 use Rattle.model.specs.Fine.{Fine, fine_loose, fine_entry, fine_parent}
 use Rattle.model.proofs.Rules.{both_true}
@@ -67,17 +65,17 @@ parent_fine : (n : ℕ) (c : Change) → FineChange n c → FineChange n (parent
 parent_fine n (Update log expected new) f = record { message = f.message; previous = refl; new = f.new }
 parent_fine n (Delete expected log) f = record { message = f.message; previous = f.previous; new = refl }
 
-settled_ready : (n : ℕ) (o : OptionName) (r : Edit) → Ready n r → Ready n (settled o r)
-settled_ready n NoName r f = record { name = f.name; change = f.change; leaf = f.leaf }
-settled_ready n (Name m) r f = record { name = f.name; change = parent_fine n (change_in r) f.change; leaf = f.leaf }
+settled_ready : (n : ℕ) (o : Option NameNumber) (r : Edit) → Ready n r → Ready n (settled o r)
+settled_ready n None r f = record { name = f.name; change = f.change; leaf = f.leaf }
+settled_ready n (Some m) r f = record { name = f.name; change = parent_fine n (change_in r) f.change; leaf = f.leaf }
 
-settled_deref : (o : OptionName) (r : Edit) → (settled o r).update.deref ≡ false
-settled_deref NoName r = refl
-settled_deref (Name m) r = refl
+settled_deref : (o : Option NameNumber) (r : Edit) → (settled o r).update.deref ≡ false
+settled_deref None r = refl
+settled_deref (Some m) r = refl
 
-settled_parent : (o : OptionName) (r : Edit) → (settled o r).parent_index ≡ r.parent_index
-settled_parent NoName r = refl
-settled_parent (Name m) r = refl
+settled_parent : (o : Option NameNumber) (r : Edit) → (settled o r).parent_index ≡ r.parent_index
+settled_parent None r = refl
+settled_parent (Some m) r = refl
 
 settled_length : (s : Store) (rows : List Edit) → length (settle_all s rows) ≡ length rows
 unfolding settle_all
@@ -90,13 +88,13 @@ settled_at s rows k = get_or-map (λ (r : Edit). settled (referent s r) r) rows 
 
 -- ---- a child's name is a link in a fine store
 
-link_below : (n : ℕ) (l : Loose) (m : NameNumber) → fine_loose n l ≡ true → link_in l ≡ Name m → m.0 < n
+link_below : (n : ℕ) (l : Loose) (m : NameNumber) → fine_loose n l ≡ true → link_in l ≡ Some m → m.0 < n
 link_below n loose.None m f e = absurd (no_name e)
 link_below n (loose.Target (Object o)) m f e = absurd (no_name e)
 link_below n (loose.Target (Symbolic x)) m f e = let q : x ≡ m = cc in rw (← q) (ltb-true x.0 n f)
 link_below n loose.Broken m f e = absurd (no_name e)
 
-cond_name : (t : Bool) (o : OptionName) (m : NameNumber) → cond t o NoName ≡ Name m → o ≡ Name m
+cond_name : (t : Bool) (o : Option NameNumber) (m : NameNumber) → cond t o None ≡ Some m → o ≡ Some m
 cond_name true o m e = e
 cond_name false o m e = absurd (no_name e)
 
@@ -105,7 +103,7 @@ unfolding fine_entry
 loose_fine n e h = (both_true (fine_loose n e.loose) _ (both_true (is_name e.name) _ h).1).0
 
 referent_below : (s : Store) → Fine s → (r : Edit) → (name_in r).0 < count s
-    → (m : NameNumber) → referent s r ≡ Name m → m.0 < count s
+    → (m : NameNumber) → referent s r ≡ Some m → m.0 < count s
 unfolding referent
 referent_below s f r h m e =
     let entry : Entry = entry_of s (name_in r) in
@@ -130,7 +128,7 @@ settled_append n old more i r w h f =
     }
 
 -- a newest row is settled behind the old ones
-newest_settled : (n d : ℕ) (old more : List Edit) (i : ℕ) (r : Edit) (o : OptionName)
+newest_settled : (n d : ℕ) (old more : List Edit) (i : ℕ) (r : Edit) (o : Option NameNumber)
     → Earlier old → d ≤ 4 → length old ≤ i → Newest n old d r → Settled n (old ++ more) i (settled o r)
 newest_settled n d old more i r o w h g f =
     let few : Few old 4 r.parent_index = few_more old d 4 r.parent_index h f.few in
@@ -157,17 +155,17 @@ next_settled s n d old newest h w v = at_append (Settled n (old ++ more)) old mo
     behind : (k : ℕ) → k < length more → Settled n (old ++ more) (length old + k) (row_at more k)
     behind k g =
         let f : Newest n old d (row_at newest k) = all_at v k no_row (omega (arith, settled_length s newest)) in
-        let o : OptionName = referent s (row_at newest k) in
+        let o : (Option NameNumber) = referent s (row_at newest k) in
         rw (settled_at s newest k) (newest_settled n d old more (length old + k) _ o (all_earlier n old w) h (omega arith) f)
 
 -- ---- and appends their children, the newest rows of the next round
 
 -- a row's child, where the row stands at place i, settled or not
-child_newest : (s : Store) → Fine s → (d : ℕ) (rows : List Edit) (i : ℕ) (r : Edit) (o : OptionName)
+child_newest : (s : Store) → Fine s → (d : ℕ) (rows : List Edit) (i : ℕ) (r : Edit) (o : Option NameNumber)
     → i < length rows → parent_at rows i ≡ r.parent_index → Ready (count s) r → Few rows d r.parent_index
     → referent s r ≡ o → All (Newest (count s) rows (suc d)) (child_of o i r)
-child_newest s f d rows i r NoName h p a g e = done
-child_newest s f d rows i r (Name m) h p a g e =
+child_newest s f d rows i r None h p a g e = done
+child_newest s f d rows i r (Some m) h p a g e =
     also (record {
       ready = record { name = referent_below s f r a.name m e; change = a.change; leaf = refl };
       parent = lt-ltb i (length rows) h;
@@ -208,7 +206,7 @@ next_newest s f d old newest w v =
 
 rounds_through : (s : Store) → Fine s → (left d : ℕ) (old newest split : List Edit)
     → d + left ≡ 5 → Through (count s) old → All (Newest (count s) old d) newest
-    → rounds s left old newest ≡ pass split → Through (count s) split
+    → rounds s left old newest ≡ Ok split → Through (count s) split
 unfolding rounds
 rounds_through s f zero d old [] split q w v e = subst (Through (count s)) (pass_is e) w
 rounds_through s f zero d old (r ∷ rs) split q w v e = absurd (refuse_pass e)
@@ -233,7 +231,7 @@ edit_newest n e f = record {
 }
 
 pub split_through : (s : Store) → Fine s → (edits : List RefEdit) (split : List Edit)
-    → All (FineEdit (count s)) edits → splits s (map row_of edits) ≡ pass split → Through (count s) split
+    → All (FineEdit (count s)) edits → splits s (map row_of edits) ≡ Ok split → Through (count s) split
 unfolding splits
 split_through s f edits split v e =
     let none : Through (count s) [] = record { settled = λ i h. absurd (omega arith); bounded = omega arith } in

@@ -1,5 +1,7 @@
 -- What holds of a row in a store that obeys the rules: its name is held, no other row has it, and the row agrees with its entry.
 -- Assumes nothing.
+use Rattle.std.specs.Prelude.{Option, Some, None}
+use Rattle.target.specs.declared.ObjectNumber.{ObjectNumber}
 use mathlib.Core.Path.{◌≡◌, refl, sym, ◌∙◌}
 use mathlib.Core.Bool.{Bool, true, false, true≢false, false≢true, ◌&&◌, or-true}
 use mathlib.Core.List.{List, [], ◌∷◌}
@@ -11,8 +13,6 @@ use borrow.Author.Tests.{ltb-true, ltb-false, eq-eqb, not-true}
 use Rattle.transaction.specs.declared.Change.{Change}
 use Rattle.transaction.specs.declared.PackedRefs.{PackedRefs}
 use Rattle.transaction.specs.Change.{new_value, is_log_only}
-use Rattle.model.specs.declared.Packed.{Packed}
-use Rattle.model.specs.declared.Packed.TheVariants as packed
 use Rattle.model.specs.Basic.{any}
 use Rattle.model.specs.Store.{Store, Entry, no_row, no_entry, count, entry_of, name_of, is_id, is_packed, mode_in}
 use Rattle.target.specs.Target.{is_object}
@@ -57,10 +57,10 @@ module _ (s : Store) (f : Fine s) where
     packed_packable : is_packed (entry_of s (name_in (row_at (rows s) i))).packed ≡ true → packs s (row_at (rows s) i) ≡ true
     packed_packable q = go (entry_of s (name_in (row_at (rows s) i))).packed q (fine_packed_lem (count s) _ (f.entries _ held))
       where
-        go : (k : Packed) → is_packed k ≡ true → fine_packed (name_of s (name_in (row_at (rows s) i))) k ≡ true
+        go : (k : Option ObjectNumber) → is_packed k ≡ true → fine_packed (name_of s (name_in (row_at (rows s) i))) k ≡ true
             → packs s (row_at (rows s) i) ≡ true
-        go packed.None a b = absurd (false≢true a)
-        go (packed.Object o) a b = (both_true (is_id o.0) _ b).1
+        go None a b = absurd (false≢true a)
+        go (Some o) a b = (both_true (is_id o.0) _ b).1
 
     -- it counts, so that some row does
     row_counts : is_log_only (change_in (row_at (rows s) i)) ≡ false → packs s (row_at (rows s) i) ≡ true → counts s (row_at (rows s) i) ≡ true

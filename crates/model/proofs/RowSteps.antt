@@ -1,4 +1,7 @@
 -- What the writes of one row do to the entry of its own name, phase by phase, and that they leave every other entry. Assumes nothing.
+use Rattle.std.specs.Prelude.{Option, Some, None}
+use Rattle.target.specs.declared.Target.{Target}
+use Rattle.target.specs.declared.ObjectNumber.{ObjectNumber}
 use mathlib.Core.Path.{◌≡◌, refl}
 use mathlib.Core.Bool.{Bool, true, false, ◌&&◌, ◌||◌, not, cond}
 use mathlib.Core.List.{List, [], ◌∷◌, ◌++◌, map}
@@ -7,8 +10,6 @@ use lib.Dec.{eqb}
 use borrow.Author.Tests.{eq-eqb, ne_eqb}
 use Rattle.target.specs.declared.NameNumber.{NameNumber}
 use Rattle.target.specs.declared.Target.TheVariants.{Object, Symbolic}
-use Rattle.target.specs.declared.OptionTarget.{OptionTarget}
-use Rattle.target.specs.declared.OptionTarget.TheVariants.{Absent, Present}
 use Rattle.target.specs.Target.{same_option}
 use Rattle.transaction.specs.declared.Change.{Change}
 use Rattle.transaction.specs.declared.Change.TheVariants.{Update, Delete}
@@ -18,8 +19,6 @@ use Rattle.transaction.specs.Change.{new_value, is_log_only, is_delete, existing
 use Rattle.transaction.specs.Fields.{packed_refs_number}
 use Rattle.model.specs.declared.Loose.{Loose}
 use Rattle.model.specs.declared.Loose.TheVariants as loose
-use Rattle.model.specs.declared.Packed.{Packed}
-use Rattle.model.specs.declared.Packed.TheVariants as packed
 use Rattle.model.specs.declared.Line.{Line}
 use Rattle.model.specs.Basic.{when}
 use Rattle.model.specs.Names.{packable}
@@ -55,24 +54,24 @@ goes_if mode p c l = (is_delete c || direct_if mode p c) && not (is_log_only c) 
 
 -- ---- what its writes do to its entry
 
-abbrev pub set_loose : OptionTarget → Entry → Entry
-set_loose Absent e = e
-set_loose (Present t) e = put_loose (loose.Target t) e
+abbrev pub set_loose : Option Target → Entry → Entry
+set_loose None e = e
+set_loose (Some t) e = put_loose (loose.Target t) e
 
-abbrev pub set_packed : OptionTarget → Entry → Entry
-set_packed Absent e = e
-set_packed (Present (Object o)) e = put_packed (packed.Object o) e
-set_packed (Present (Symbolic m)) e = e
+abbrev pub set_packed : Option Target → Entry → Entry
+set_packed None e = e
+set_packed (Some (Object o)) e = put_packed (Some o) e
+set_packed (Some (Symbolic m)) e = e
 
 -- W1
 abbrev pub loose_set : PackedRefs → Bool → Change → Entry → Entry
 loose_set mode p c e = cond (sets_if mode p c) (set_loose (new_value c) e) e
 
 -- W3, where k is the packed value from before
-abbrev pub packed_moved : PackedRefs → Bool → Change → Packed → Entry → Entry
+abbrev pub packed_moved : PackedRefs → Bool → Change → Option ObjectNumber → Entry → Entry
 packed_moved mode p c k e =
     cond (not (is_log_only c) && p)
-    (cond (is_delete c && is_packed k) (put_packed packed.None e) (cond (packs_updates mode) (set_packed (new_value c) e) e))
+    (cond (is_delete c && is_packed k) (put_packed None e) (cond (packs_updates mode) (set_packed (new_value c) e) e))
     e
 
 -- W4, where l is the loose value from before
@@ -86,14 +85,14 @@ quiet_lines n [] = quiet_none
 quiet_lines n (l ∷ ls) = quiet_cons (λ e. refl) (quiet_lines n ls)
 
 module _ (n : ℕ) (k : NameNumber) (other : k.0 ≡ n → ⊥) where
-  other_loose : (v : OptionTarget) → Quiet (touch n) (loose_write k v)
-  other_loose Absent = quiet_none
-  other_loose (Present t) = quiet_cons (λ e. rw (ne_eqb k.0 n other)) quiet_none
+  other_loose : (v : Option Target) → Quiet (touch n) (loose_write k v)
+  other_loose None = quiet_none
+  other_loose (Some t) = quiet_cons (λ e. rw (ne_eqb k.0 n other)) quiet_none
 
-  other_set : (v : OptionTarget) → Quiet (touch_packed n) (packed_set k v)
-  other_set Absent = quiet_none
-  other_set (Present (Object o)) = quiet_cons (λ e. rw (ne_eqb k.0 n other)) quiet_none
-  other_set (Present (Symbolic m)) = quiet_none
+  other_set : (v : Option Target) → Quiet (touch_packed n) (packed_set k v)
+  other_set None = quiet_none
+  other_set (Some (Object o)) = quiet_cons (λ e. rw (ne_eqb k.0 n other)) quiet_none
+  other_set (Some (Symbolic m)) = quiet_none
 
 module _ (n : ℕ) (r : Edit) (other : (name_in r).0 ≡ n → ⊥) (s : Store) (mode : PackedRefs) where
   pub other_w1 : (stamp : Stamp) → Quiet (touch n) (w1 stamp s mode r)
@@ -113,7 +112,7 @@ module _ (n : ℕ) (r : Edit) (other : (name_in r).0 ≡ n → ⊥) (s : Store) 
   other_packed =
       quiet_cond (counts s r)
       (quiet_append (quiet_cond (packs_updates mode) (other_set n (name_in r) other (new_value (change_in r))))
-      (quiet_when (is_delete (change_in r) && is_packed (entry_of s (name_in r)).packed) (record { name = name_in r; value = packed.None })
+      (quiet_when (is_delete (change_in r) && is_packed (entry_of s (name_in r)).packed) (record { name = name_in r; value = None })
       (λ e. rw (ne_eqb (name_in r).0 n other))))
 
 pub quiet_w2 : (n : ℕ) (r : Edit) (s : Store) → Quiet (touch n) (w2 s r)
@@ -126,27 +125,27 @@ module _ (k : NameNumber) where
   own : eqb k.0 k.0 ≡ true
   own = eq-eqb k.0 k.0 refl
 
-  own_loose : (b : Bool) (v : OptionTarget) (e : Entry) → Step (touch k.0) (cond b (loose_write k v) []) e (cond b (set_loose v e) e)
-  own_loose true Absent e = quiet_step quiet_none e
-  own_loose true (Present t) e = rw own at (one_step {t = touch k.0} (write_loose k t) e)
+  own_loose : (b : Bool) (v : Option Target) (e : Entry) → Step (touch k.0) (cond b (loose_write k v) []) e (cond b (set_loose v e) e)
+  own_loose true None e = quiet_step quiet_none e
+  own_loose true (Some t) e = rw own at (one_step {t = touch k.0} (write_loose k t) e)
   own_loose false v e = quiet_step quiet_none e
 
-  own_set : (u : Bool) (v : OptionTarget) (e : Entry) → Step (touch_packed k.0) (cond u (packed_set k v) []) e (cond u (set_packed v e) e)
-  own_set true Absent e = quiet_step quiet_none e
-  own_set true (Present (Object o)) e = rw own at (one_step {t = touch_packed k.0} (record { name = k; value = packed.Object o }) e)
-  own_set true (Present (Symbolic m)) e = quiet_step quiet_none e
+  own_set : (u : Bool) (v : Option Target) (e : Entry) → Step (touch_packed k.0) (cond u (packed_set k v) []) e (cond u (set_packed v e) e)
+  own_set true None e = quiet_step quiet_none e
+  own_set true (Some (Object o)) e = rw own at (one_step {t = touch_packed k.0} (record { name = k; value = Some o }) e)
+  own_set true (Some (Symbolic m)) e = quiet_step quiet_none e
   own_set false v e = quiet_step quiet_none e
 
   own_edit : (b : Bool) (e : Entry)
-      → Step (touch_packed k.0) (when b (record { name = k; value = packed.None })) e (cond b (put_packed packed.None e) e)
-  own_edit b e = rw own at (step_when {t = touch_packed k.0} b (record { name = k; value = packed.None }) e)
+      → Step (touch_packed k.0) (when b (record { name = k; value = None })) e (cond b (put_packed None e) e)
+  own_edit b e = rw own at (step_when {t = touch_packed k.0} b (record { name = k; value = None }) e)
 
   -- a deletion has no new value, so one of the two edits at most is there
-  own_edits : (c : Change) (b u : Bool) (x : Packed) (e : Entry)
+  own_edits : (c : Change) (b u : Bool) (x : Option ObjectNumber) (e : Entry)
       → Step (touch_packed k.0)
-      (cond b (cond u (packed_set k (new_value c)) [] ++ when (is_delete c && is_packed x) (record { name = k; value = packed.None })) []) e
-      (cond b (cond (is_delete c && is_packed x) (put_packed packed.None e) (cond u (set_packed (new_value c) e) e)) e)
-  own_edits (Update log expected new) true u x e = step_before_lem (own_set u (Present new) e) quiet_none
+      (cond b (cond u (packed_set k (new_value c)) [] ++ when (is_delete c && is_packed x) (record { name = k; value = None })) []) e
+      (cond b (cond (is_delete c && is_packed x) (put_packed None e) (cond u (set_packed (new_value c) e) e)) e)
+  own_edits (Update log expected new) true u x e = step_before_lem (own_set u (Some new) e) quiet_none
   own_edits (Delete expected log) true true x e = own_edit (is_packed x) e
   own_edits (Delete expected log) true false x e = own_edit (is_packed x) e
   own_edits c false u x e = quiet_step quiet_none e

@@ -1,4 +1,6 @@
 -- What a row's name reads after each phase of its writes. Assumes nothing.
+use Rattle.std.specs.Prelude.{Option, Some, None}
+use Rattle.target.specs.declared.ObjectNumber.{ObjectNumber}
 use mathlib.Core.Path.{◌≡◌, refl, sym, ap, ◌∙◌}
 use mathlib.Core.Bool.{Bool, true, false, true≢false, false≢true, ◌&&◌, ◌||◌, not, cond}
 use mathlib.Core.Logic.{◌⊎◌}
@@ -8,8 +10,6 @@ use native.Mathlib.Omega.{arith}
 use borrow.Author.Tests.{not-false}
 use Rattle.target.specs.declared.Target.{Target}
 use Rattle.target.specs.declared.Target.TheVariants.{Object, Symbolic}
-use Rattle.target.specs.declared.OptionTarget.{OptionTarget}
-use Rattle.target.specs.declared.OptionTarget.TheVariants.{Present}
 use Rattle.target.specs.Target.{same_option}
 use Rattle.target.specs.Found.{value_in}
 use Rattle.target.proofs.Laws.{option_true}
@@ -23,8 +23,6 @@ use Rattle.transaction.specs.declared.PackedRefs.TheVariants.{DeletionsOnly, Del
 use Rattle.transaction.specs.Change.{new_value, is_log_only, is_only, matched, existing_in}
 use Rattle.model.specs.declared.Loose.{Loose}
 use Rattle.model.specs.declared.Loose.TheVariants as loose
-use Rattle.model.specs.declared.Packed.{Packed}
-use Rattle.model.specs.declared.Packed.TheVariants as packed
 use Rattle.model.specs.Store.{Entry, is_none, is_packed, put_loose, put_packed}
 use Rattle.model.specs.Read.{found_in, value_of}
 use Rattle.target.specs.Target.{is_object, is_symbolic}
@@ -50,7 +48,7 @@ abbrev pub after4 : PackedRefs → Bool → Bool → Change → Entry → Entry
 after4 mode o p c e = loose_gone mode p c e.loose (after3 mode o p c e)
 
 -- what the row's name is to read
-abbrev pub target : Change → Entry → OptionTarget
+abbrev pub target : Change → Entry → Option Target
 target c e = cond (is_log_only c) (value_of true e) (new_value c)
 
 -- the row shows from W1 on
@@ -111,33 +109,33 @@ module _ (mode : PackedRefs) (o p : Bool) (c : Change) (e : Entry) (only : is_lo
 -- ---- an update that is not direct: its loose value shows, or the same value was there before
 
 -- a value that shows without the packed table shows with it
-seen_too : (o : Bool) (e : Entry) {t : Target} → value_of o e ≡ Present t → value_of true e ≡ Present t
+seen_too : (o : Bool) (e : Entry) {t : Target} → value_of o e ≡ Some t → value_of true e ≡ Some t
 seen_too true e h = h
 seen_too false e {t} h = go e.loose h
   where
-    go : (l : Loose) → value_in (found_in l packed.None) ≡ Present t → value_in (found_in l e.packed) ≡ Present t
+    go : (l : Loose) → value_in (found_in l None) ≡ Some t → value_in (found_in l e.packed) ≡ Some t
     go loose.None q = absurd (let z : ◌≡◌ {A = ℕ} 0 1 = cc in omega arith)
     go (loose.Target u) q = q
     go loose.Broken q = absurd (let z : ◌≡◌ {A = ℕ} 0 1 = cc in omega arith)
 
 -- the value that is there, packed once more
-packed_again : (t : Target) (e : Entry) → value_of true e ≡ Present t → value_of true (set_packed (Present t) e) ≡ Present t
+packed_again : (t : Target) (e : Entry) → value_of true e ≡ Some t → value_of true (set_packed (Some t) e) ≡ Some t
 packed_again (Object o) e h = go e.loose h
   where
-    go : (l : Loose) → value_in (found_in l e.packed) ≡ Present (Object o) → value_in (found_in l (packed.Object o)) ≡ Present (Object o)
+    go : (l : Loose) → value_in (found_in l e.packed) ≡ Some (Object o) → value_in (found_in l (Some o)) ≡ Some (Object o)
     go loose.None q = refl
     go (loose.Target u) q = q
     go loose.Broken q = refl
 packed_again (Symbolic n) e h = h
 
-moved_again : (a u : Bool) (t : Target) (e : Entry) → value_of true e ≡ Present t
-    → value_of true (cond a (cond u (set_packed (Present t) e) e) e) ≡ Present t
+moved_again : (a u : Bool) (t : Target) (e : Entry) → value_of true e ≡ Some t
+    → value_of true (cond a (cond u (set_packed (Some t) e) e) e) ≡ Some t
 moved_again true true t e h = packed_again t e h
 moved_again true false t e h = h
 moved_again false u t e h = h
 
-opened_again : (o a u : Bool) (t : Target) (e : Entry) → value_of true e ≡ Present t
-    → value_of true (cond o (cond a (cond u (set_packed (Present t) e) e) e) e) ≡ Present t
+opened_again : (o a u : Bool) (t : Target) (e : Entry) → value_of true e ≡ Some t
+    → value_of true (cond o (cond a (cond u (set_packed (Some t) e) e) e) e) ≡ Some t
 opened_again true a u t e h = moved_again a u t e h
 opened_again false a u t e h = h
 
@@ -146,10 +144,10 @@ target_new c e only = rw only
 
 -- the row differs from what is there, so that it writes its loose value
 abbrev differs : PreviousValue → Target → Bool
-differs expected t = is_symbolic (Present t) || not (same_option (Present t) (matched expected))
+differs expected t = is_symbolic (Some t) || not (same_option (Some t) (matched expected))
 
-alike : (expected : PreviousValue) (t : Target) → differs expected t ≡ false → matched expected ≡ Present t
-alike expected t h = sym (option_true (Present t) (matched expected) (not-false _ (go (is_symbolic (Present t)) _ h)))
+alike : (expected : PreviousValue) (t : Target) → differs expected t ≡ false → matched expected ≡ Some t
+alike expected t h = sym (option_true (Some t) (matched expected) (not-false _ (go (is_symbolic (Some t)) _ h)))
   where
     go : (a b : Bool) → a || b ≡ false → b ≡ false
     go true b q = absurd (true≢false q)
@@ -157,10 +155,10 @@ alike expected t h = sym (option_true (Present t) (matched expected) (not-false 
 
 module _ (mode : PackedRefs) (o p : Bool) (log : LogChange) (expected : PreviousValue) (t : Target) (e : Entry) where
   update_shows : Agreed mode o p (Update log expected t) e → is_only log.mode ≡ false
-      → direct_if mode p (Update log expected t) ≡ false → value_of true (after1 mode p (Update log expected t) e) ≡ Present t
+      → direct_if mode p (Update log expected t) ≡ false → value_of true (after1 mode p (Update log expected t) e) ≡ Some t
   update_shows a only apart = go (differs expected t) refl
     where
-      go : (b : Bool) → differs expected t ≡ b → value_of true (after1 mode p (Update log expected t) e) ≡ Present t
+      go : (b : Bool) → differs expected t ≡ b → value_of true (after1 mode p (Update log expected t) e) ≡ Some t
       go true h = rw (apart, only, h)
       go false h = rw (apart, only, h) (seen_too o e (sym a.existing ∙ alike expected t h))
 
@@ -178,15 +176,15 @@ module _ (mode : PackedRefs) (o p : Bool) (log : LogChange) (expected : Previous
 -- ---- a direct update, or a deletion: a loose target shows until W4 removes it, and what W3 packed behind it from then on
 
 -- what shows of a packed value by itself, and behind a broken loose one too
-abbrev packed_value : Packed → OptionTarget
+abbrev packed_value : Option ObjectNumber → Option Target
 packed_value v = value_in (found_in loose.None v)
 
-behind_broken : (v : Packed) → value_in (found_in loose.Broken v) ≡ packed_value v
-behind_broken packed.None = refl
-behind_broken (packed.Object o) = refl
+behind_broken : (v : Option ObjectNumber) → value_in (found_in loose.Broken v) ≡ packed_value v
+behind_broken None = refl
+behind_broken (Some o) = refl
 
 -- behind a loose target nothing shows
-behind_loose : (e : Entry) (v : Packed)
+behind_loose : (e : Entry) (v : Option ObjectNumber)
     → (value_of true (put_packed v e) ≡ value_of true e) ⊎ (value_of true (put_packed v e) ≡ packed_value v)
 behind_loose e v = go e.loose
   where
@@ -197,7 +195,7 @@ behind_loose e v = go e.loose
     go loose.Broken = inr (behind_broken v)
 
 -- with the loose value gone, the packed one does
-loose_gone_lem : (e : Entry) (v : Packed)
+loose_gone_lem : (e : Entry) (v : Option ObjectNumber)
     → value_of true (cond (not (is_none e.loose)) (put_loose loose.None (put_packed v e)) (put_packed v e)) ≡ packed_value v
 loose_gone_lem e v = go e.loose
   where
@@ -208,7 +206,7 @@ loose_gone_lem e v = go e.loose
     go (loose.Target t) = refl
     go loose.Broken = refl
 
-module _ (mode : PackedRefs) (o p : Bool) (c : Change) (e : Entry) (v : Packed) where
+module _ (mode : PackedRefs) (o p : Bool) (c : Change) (e : Entry) (v : Option ObjectNumber) where
   late_by : after1 mode p c e ≡ e → after3 mode o p c e ≡ put_packed v e
       → goes_if mode p c e.loose ≡ not (is_none e.loose) → target c e ≡ packed_value v → Late mode o p c e
   late_by one three goes new =
@@ -228,18 +226,18 @@ direct_late DeletionsAndNonSymbolicUpdatesRemoveLooseSourceReference o p log exp
 direct_late DeletionsAndNonSymbolicUpdatesRemoveLooseSourceReference o false log expected (Object x) e a only h = absurd (false≢true h)
 direct_late DeletionsAndNonSymbolicUpdatesRemoveLooseSourceReference o true log expected (Object x) e a only h =
     let opened : o ≡ true = a.to_set only refl refl refl in
-    late_by _ o true (Update log expected (Object x)) e (packed.Object x) (rw only) (rw (opened, only)) (rw only) (rw only)
+    late_by _ o true (Update log expected (Object x)) e (Some x) (rw only) (rw (opened, only)) (rw only) (rw only)
 
 -- W3 of a deletion leaves nothing packed: what was packed it removes
-nothing_packed : (o p u : Bool) (k : Packed) (e : Entry) → e.packed ≡ k → (is_packed k ≡ true → (o ≡ true) × (p ≡ true))
-    → cond o (cond p (cond (is_packed k) (put_packed packed.None e) (cond u e e)) e) e ≡ put_packed packed.None e
-nothing_packed o p u packed.None e h need = simp cond_same (ap (λ (k : Packed). put_packed k e) h)
-nothing_packed o p u (packed.Object x) e h need = rw ((need refl).0, (need refl).1)
+nothing_packed : (o p u : Bool) (k : Option ObjectNumber) (e : Entry) → e.packed ≡ k → (is_packed k ≡ true → (o ≡ true) × (p ≡ true))
+    → cond o (cond p (cond (is_packed k) (put_packed None e) (cond u e e)) e) e ≡ put_packed None e
+nothing_packed o p u None e h need = simp cond_same (ap (λ (k : Option ObjectNumber). put_packed k e) h)
+nothing_packed o p u (Some x) e h need = rw ((need refl).0, (need refl).1)
 
 pub delete_late : (mode : PackedRefs) (o p : Bool) (expected : PreviousValue) (e : Entry)
     → Agreed mode o p (Delete expected AndReference) e → Late mode o p (Delete expected AndReference) e
 delete_late mode o p expected e a =
-    late_by mode o p (Delete expected AndReference) e packed.None one
+    late_by mode o p (Delete expected AndReference) e None one
     (rw one (nothing_packed o p (packs_updates mode) e.packed e refl (λ h. (a.to_remove refl (a.packable h) h, a.packable h))))
     refl refl
   where

@@ -1,8 +1,8 @@
 -- The rows that splitting leaves are fine by themselves, and nothing is their leaf-previous yet. Assumes nothing.
+use Rattle.std.specs.Prelude.{Some, Ok}
 use mathlib.Core.Path.{◌≡◌, refl, ap}
 use mathlib.Core.Bool.{true, not}
 use mathlib.Core.List.{List, map}
-use mathlib.Core.Option.{some}
 use Prim.Native.Nat.{ℕ, ◌<◌, ◌^◌}
 use lib.ListN.{length}
 use lib.Dec.{lit<}
@@ -13,7 +13,6 @@ use Rattle.transaction.specs.Change.{row_of}
 use Rattle.model.specs.Store.{Store, count}
 use Rattle.model.specs.Rows.{row_at, ancestors}
 use Rattle.model.specs.EditList.{edits_of}
-use Rattle.model.specs.Outcome.Outcome.{pass}
 use Rattle.model.specs.Split.{splits, one_name_one_edit}
 use Rattle.model.specs.Prepare.{registered}
 use Rattle.model.specs.Fine.{Fine, fine_row}
@@ -37,8 +36,8 @@ settled_fine n rows i f =
     (true_both (lt-ltb _ _ leaf) refl)))))))
 
 pub split_fine : (s : Store) → Fine s → (list : List ℕ) (edits : List RefEdit) (split : List Edit)
-    → edits_of list ≡ some edits → registered s edits ≡ pass tt → splits s (map row_of edits) ≡ pass split
-    → one_name_one_edit s split ≡ pass tt → RowsFine (count s) split
+    → edits_of list ≡ Some edits → registered s edits ≡ Ok tt → splits s (map row_of edits) ≡ Ok split
+    → one_name_one_edit s split ≡ Ok tt → RowsFine (count s) split
 split_fine s f list edits split e g p q =
     let t : Through (count s) split = split_through s f edits split (edits_fine s list edits e g) p in
     record {
@@ -48,6 +47,6 @@ split_fine s f list edits split e g p q =
     }
 
 pub split_leaf : (s : Store) → Fine s → (list : List ℕ) (edits : List RefEdit) (split : List Edit)
-    → edits_of list ≡ some edits → registered s edits ≡ pass tt → splits s (map row_of edits) ≡ pass split
+    → edits_of list ≡ Some edits → registered s edits ≡ Ok tt → splits s (map row_of edits) ≡ Ok split
     → (i : ℕ) → i < length split → (row_at split i).leaf_referent_previous_oid.0 ≡ 0
 split_leaf s f list edits split e g p i h = ((split_through s f edits split (edits_fine s list edits e g) p).settled i h).ready.leaf

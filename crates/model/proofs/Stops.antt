@@ -1,8 +1,8 @@
 -- What commit comes to: the writes that its committer and its allowance let it make, and nothing else. Assumes nothing.
+use Rattle.std.specs.Prelude.{Some, None}
 use mathlib.Core.Path.{◌≡◌, refl, sym, ap, ◌∙◌}
 use mathlib.Core.Bool.{Bool, true, false, ◌&&◌, cond}
 use mathlib.Core.List.{List, [], ◌∷◌}
-use mathlib.Core.Option.{none, some}
 use Prim.Native.Nat.{ℕ, zero, suc, ◌+◌, ◌≤◌, ◌<◌, min}
 use native.Mathlib.Omega.{arith}
 use lib.ListN.{length, take}
@@ -26,7 +26,7 @@ permitted stamp (w ∷ ws) = cond (stops stamp w) [] (w ∷ permitted stamp ws)
 
 -- what `run` says of a list with a first write, by whether that write stops it
 module _ (stamp : Stamp) (k : ℕ) (w : Write) (ws : List Write) (m : ℕ) (s : Store) where
-  pub run_stops : stops stamp w ≡ true → run stamp (suc k) (w ∷ ws) m s ≡ record { store = s; made = m; stop = some no_committer }
+  pub run_stops : stops stamp w ≡ true → run stamp (suc k) (w ∷ ws) m s ≡ record { store = s; made = m; stop = Some no_committer }
   unfolding run
   run_stops e = rw e
 
@@ -60,15 +60,15 @@ run_made stamp (suc a) (w ∷ ws) m s = go (run_made stamp a ws (m + 1) (apply w
 
 -- no stop: every write was permitted, and the allowance sufficed
 pub run_whole : (stamp : Stamp) (a : ℕ) (ws : List Write) (m : ℕ) (s : Store)
-    → (run stamp a ws m s).stop ≡ none → (permitted stamp ws ≡ ws) × (length ws ≤ a)
+    → (run stamp a ws m s).stop ≡ None → (permitted stamp ws ≡ ws) × (length ws ≤ a)
 unfolding run
 run_whole stamp a [] m s e = (refl, omega arith)
 run_whole stamp zero (w ∷ ws) m s e = absurd (let z : ◌≡◌ {A = ℕ} 0 1 = cc in omega arith)
 run_whole stamp (suc a) (w ∷ ws) m s e = go (run_whole stamp a ws (m + 1) (apply w s)) (stops stamp w) refl
   where
-    go : ((run stamp a ws (m + 1) (apply w s)).stop ≡ none → (permitted stamp ws ≡ ws) × (length ws ≤ a)) → (t : Bool) → stops stamp w ≡ t
+    go : ((run stamp a ws (m + 1) (apply w s)).stop ≡ None → (permitted stamp ws ≡ ws) × (length ws ≤ a)) → (t : Bool) → stops stamp w ≡ t
         → (permitted stamp (w ∷ ws) ≡ w ∷ ws) × (suc (length ws) ≤ suc a)
-    go h true p = absurd (let q : some no_committer ≡ none = sym (ap (λ (r : Run). r.stop) (run_stops stamp a w ws m s p)) ∙ e in
+    go h true p = absurd (let q : Some no_committer ≡ None = sym (ap (λ (r : Run). r.stop) (run_stops stamp a w ws m s p)) ∙ e in
         let z : ◌≡◌ {A = ℕ} 0 1 = cc in omega arith)
     go h false p =
         let r = h (sym (ap (λ (r : Run). r.stop) (run_goes stamp a w ws m s p)) ∙ e) in
@@ -77,13 +77,13 @@ run_whole stamp (suc a) (w ∷ ws) m s e = go (run_whole stamp a ws (m + 1) (app
 
 -- stopped for want of a committer: every permitted write was made, the allowance was not used up, and another write stood next
 pub run_unsigned : (stamp : Stamp) (a : ℕ) (ws : List Write) (m : ℕ) (s : Store)
-    → (run stamp a ws m s).stop ≡ some no_committer → (length (permitted stamp ws) < a) × (length (permitted stamp ws) < length ws)
+    → (run stamp a ws m s).stop ≡ Some no_committer → (length (permitted stamp ws) < a) × (length (permitted stamp ws) < length ws)
 unfolding run
 run_unsigned stamp a [] m s e = absurd (let z : ◌≡◌ {A = ℕ} 0 1 = cc in omega arith)
 run_unsigned stamp zero (w ∷ ws) m s e = absurd (let z : ◌≡◌ {A = ℕ} 0 1 = cc in omega arith)
 run_unsigned stamp (suc a) (w ∷ ws) m s e = go (run_unsigned stamp a ws (m + 1) (apply w s)) (stops stamp w) refl
   where
-    go : ((run stamp a ws (m + 1) (apply w s)).stop ≡ some no_committer → (length (permitted stamp ws) < a) × (length (permitted stamp ws) < length ws))
+    go : ((run stamp a ws (m + 1) (apply w s)).stop ≡ Some no_committer → (length (permitted stamp ws) < a) × (length (permitted stamp ws) < length ws))
         → (t : Bool) → stops stamp w ≡ t
         → (length (permitted stamp (w ∷ ws)) < suc a) × (length (permitted stamp (w ∷ ws)) < suc (length ws))
     go h true p = rw p (omega arith)
@@ -93,16 +93,16 @@ run_unsigned stamp (suc a) (w ∷ ws) m s e = go (run_unsigned stamp a ws (m + 1
 
 -- the allowance used up: so many permitted writes were made, and another write stood next
 pub run_used : (stamp : Stamp) (a : ℕ) (ws : List Write) (m : ℕ) (s : Store)
-    → (run stamp a ws m s).stop ≡ some used_up → (a ≤ length (permitted stamp ws)) × (a < length ws)
+    → (run stamp a ws m s).stop ≡ Some used_up → (a ≤ length (permitted stamp ws)) × (a < length ws)
 unfolding run
 run_used stamp a [] m s e = absurd (let z : ◌≡◌ {A = ℕ} 0 1 = cc in omega arith)
 run_used stamp zero (w ∷ ws) m s e = (omega arith, omega arith)
 run_used stamp (suc a) (w ∷ ws) m s e = go (run_used stamp a ws (m + 1) (apply w s)) (stops stamp w) refl
   where
-    go : ((run stamp a ws (m + 1) (apply w s)).stop ≡ some used_up → (a ≤ length (permitted stamp ws)) × (a < length ws))
+    go : ((run stamp a ws (m + 1) (apply w s)).stop ≡ Some used_up → (a ≤ length (permitted stamp ws)) × (a < length ws))
         → (t : Bool) → stops stamp w ≡ t
         → (suc a ≤ length (permitted stamp (w ∷ ws))) × (suc a < suc (length ws))
-    go h true p = absurd (let q : some no_committer ≡ some used_up = sym (ap (λ (r : Run). r.stop) (run_stops stamp a w ws m s p)) ∙ e in
+    go h true p = absurd (let q : Some no_committer ≡ Some used_up = sym (ap (λ (r : Run). r.stop) (run_stops stamp a w ws m s p)) ∙ e in
         let z : ◌≡◌ {A = ℕ} 0 1 = cc in omega arith)
     go h false p =
         let r = h (sym (ap (λ (r : Run). r.stop) (run_goes stamp a w ws m s p)) ∙ e) in

@@ -1,8 +1,8 @@
 -- Lines: a text that lines make is read line by line, and a text without comments and `^` lines is the lines of what it says. Assumes nothing.
+use Rattle.std.specs.Prelude.{Option, Some, None, Result, Ok, Err}
 use mathlib.Core.Path.{◌≡◌, refl, sym, ap, ap₂, subst, ◌∙◌}
 use mathlib.Core.Bool.{Bool, true, false, ◌&&◌, ◌||◌, not, cond, and-false, true≢false, false≢true}
 use mathlib.Core.List.{List, [], ◌∷◌, ◌++◌, append_assoc}
-use mathlib.Core.Option.{Option, none, some}
 use Prim.Native.Nat.{ℕ, zero, suc, ◌+◌, ◌/◌, ◌%◌, ◌^◌, ◌≤◌, ◌<◌}
 use native.Mathlib.Omega.{arith}
 use lib.ListN.{length, drop}
@@ -13,8 +13,6 @@ use Rattle.model.specs.declared.Refusal.{Refusal}
 use Rattle.model.specs.Basic.{all, collect}
 use Rattle.model.specs.Names.{begins, under, before, grow, pieces, is_name, packable}
 use Rattle.model.specs.Store.{is_id}
-use Rattle.model.specs.Outcome.{Outcome}
-use Rattle.model.specs.Outcome.Outcome.{refuse, pass}
 use Rattle.model.specs.PackedText.{Ref, digit, digits_on, ref_line, is_digit, ref_in, is_comment, is_peeled, ref_said, line_said, End, Reading, read_on, read_lines}
 use Rattle.model.specs.PackedText.End.{whole, faulty}
 use Rattle.model.specs.Texts.{plain_line}
@@ -74,17 +72,17 @@ abbrev pub Chain : List ℕ → List Ref → Type 0
 Chain last [] = Unit {0}
 Chain last (r ∷ rs) = Loadable r × (before last r.name ≡ true) × Chain r.name rs
 
-abbrev pub Says : List ℕ → Bool → List ℕ → Outcome (Option Ref) → Type 0
-Says last direct l (refuse x) = Unit {0}
-Says last direct l (pass none) = (is_comment l || (direct && is_peeled l)) ≡ true
-Says last direct l (pass (some r)) = (ref_in l ≡ some r) × Loadable r × (before last r.name ≡ true)
+abbrev pub Says : List ℕ → Bool → List ℕ → Result (Option Ref) Refusal → Type 0
+Says last direct l (Err x) = Unit {0}
+Says last direct l (Ok None) = (is_comment l || (direct && is_peeled l)) ≡ true
+Says last direct l (Ok (Some r)) = (ref_in l ≡ Some r) × Loadable r × (before last r.name ≡ true)
 
 pub line_says : (i : ℕ) (last : List ℕ) (direct : Bool) (l : List ℕ) → Says last direct l (line_said i last direct l)
 unfolding line_said
 line_says i last direct l = go (is_comment l || (direct && is_peeled l)) refl
   where
-    loads : (r : Ref) → ref_in l ≡ some r → (b t : Bool) → before last r.name ≡ b → (is_id r.object && packable r.name) ≡ t
-        → Says last direct l (ref_said i last (some r))
+    loads : (r : Ref) → ref_in l ≡ Some r → (b t : Bool) → before last r.name ≡ b → (is_id r.object && packable r.name) ≡ t
+        → Says last direct l (ref_said i last (Some r))
     loads r e false t p q = rw p tt
     loads r e true false p q = rw (p, q) tt
     loads r e true true p q =
@@ -92,28 +90,28 @@ line_says i last direct l = go (is_comment l || (direct && is_peeled l)) refl
         rw (p, q) (e, record { name = (ref_written l r e).1; id = f.0; packs = f.1 }, p)
 
     says : (o : Option Ref) → ref_in l ≡ o → Says last direct l (ref_said i last o)
-    says none e = tt
-    says (some r) e = loads r e (before last r.name) (is_id r.object && packable r.name) refl refl
+    says None e = tt
+    says (Some r) e = loads r e (before last r.name) (is_id r.object && packable r.name) refl refl
 
-    go : (t : Bool) → (is_comment l || (direct && is_peeled l)) ≡ t → Says last direct l (cond t (pass none) (ref_said i last (ref_in l)))
+    go : (t : Bool) → (is_comment l || (direct && is_peeled l)) ≡ t → Says last direct l (cond t (Ok None) (ref_said i last (ref_in l)))
     go true p = p
     go false p = says (ref_in l) refl
 
 -- a line that says nothing begins with no digit, and is no ref line
-marked : (b : ℕ) (l : List ℕ) → is_digit b ≡ false → ref_in (b ∷ l) ≡ none
+marked : (b : ℕ) (l : List ℕ) → is_digit b ≡ false → ref_in (b ∷ l) ≡ None
 unfolding ref_in
 marked b l h = rw h
 
 -- what a mark begins
-begun : (c : ℕ) (l : List ℕ) → begins (c ∷ []) l ≡ true → is_digit c ≡ false → ref_in l ≡ none
+begun : (c : ℕ) (l : List ℕ) → begins (c ∷ []) l ≡ true → is_digit c ≡ false → ref_in l ≡ None
 begun c [] h d = absurd (false≢true h)
-begun c (b ∷ bs) h d = let q : c ≡ b = eqb-true c b (both_true (eqb c b) true h).0 in subst (λ (x : ℕ). ref_in (x ∷ bs) ≡ none) q (marked c bs d)
+begun c (b ∷ bs) h d = let q : c ≡ b = eqb-true c b (both_true (eqb c b) true h).0 in subst (λ (x : ℕ). ref_in (x ∷ bs) ≡ None) q (marked c bs d)
 
 peeled_mark : (l : List ℕ) → is_peeled l ≡ true → under "^" l ≡ true
 unfolding is_peeled
 peeled_mark l h = (both_true (under "^" l) (eqb (length l) 41) (both_true (under "^" l && eqb (length l) 41) (all is_digit (drop 1 l)) h).0).0
 
-pub says_nothing : (direct : Bool) (l : List ℕ) → (is_comment l || (direct && is_peeled l)) ≡ true → ref_in l ≡ none
+pub says_nothing : (direct : Bool) (l : List ℕ) → (is_comment l || (direct && is_peeled l)) ≡ true → ref_in l ≡ None
 says_nothing direct l h =
     either (is_comment l) (direct && is_peeled l) h
     (λ e. begun 35 l e refl)
@@ -127,10 +125,10 @@ read_chain (l ∷ []) i last direct = tt
 read_chain (l ∷ m ∷ ls) i last direct = go (read_chain (m ∷ ls)) (line_said i last direct l) (line_says i last direct l)
   where
     go : ((i : ℕ) (last : List ℕ) (direct : Bool) → Chain last (read_lines (m ∷ ls) i last direct).refs)
-        → (o : Outcome (Option Ref)) → Says last direct l o → Chain last (read_on i last o (read_lines (m ∷ ls))).refs
-    go rec (refuse x) h = tt
-    go rec (pass none) h = rec (i + 1) last false
-    go rec (pass (some r)) h = (h.1, h.2, rec (i + 1) r.name true)
+        → (o : Result (Option Ref) Refusal) → Says last direct l o → Chain last (read_on i last o (read_lines (m ∷ ls))).refs
+    go rec (Err x) h = tt
+    go rec (Ok None) h = rec (i + 1) last false
+    go rec (Ok (Some r)) h = (h.1, h.2, rec (i + 1) r.name true)
 
 -- ---- what was written is read
 
@@ -170,7 +168,7 @@ unfolding is_peeled
 unpeeled l h = rw h
 
 -- a ref line is no other line
-body_says : (r : Ref) (i : ℕ) (last : List ℕ) (direct : Bool) → Loadable r → before last r.name ≡ true → line_said i last direct (body_of r) ≡ pass (some r)
+body_says : (r : Ref) (i : ℕ) (last : List ℕ) (direct : Bool) → Loadable r → before last r.name ≡ true → line_said i last direct (body_of r) ≡ Ok (Some r)
 unfolding line_said
 body_says r i last direct h b = rw (comment, peeled, and-false direct, ref_read r small h.name, b, h.id, h.packs)
   where
@@ -197,7 +195,7 @@ written_read (r ∷ rs) i last direct h =
     let more : List ℕ = collect ref_line rs in
     ap (λ (ps : List (List ℕ)). read_lines ps i last direct) (body_pieces r more h.0.name)
     ∙ read_more (body_of r) (pieces 10 more) i last direct (some_piece 10 more)
-    ∙ ap (λ (o : Outcome (Option Ref)). read_on i last o (read_lines (pieces 10 more))) (body_says r i last direct h.0 h.1)
+    ∙ ap (λ (o : Result (Option Ref) Refusal). read_on i last o (read_lines (pieces 10 more))) (body_says r i last direct h.0 h.1)
     ∙ ap (λ (x : Reading). record { refs = r ∷ x.refs; end = x.end }) (written_read rs (i + 1) r.name true h.2)
 
 -- ---- what was read is written, where every line is a ref line
@@ -230,11 +228,11 @@ read_written (l ∷ m ∷ ls) i last direct rs h e = go (read_written (m ∷ ls)
 
     go : ((i : ℕ) (last : List ℕ) (direct : Bool) (rs : List Ref) → all plain_line (m ∷ ls) ≡ true
         → read_lines (m ∷ ls) i last direct ≡ record { refs = rs; end = whole } → joined 10 (m ∷ ls) ≡ collect ref_line rs)
-        → (o : Outcome (Option Ref)) → Says last direct l o → read_on i last o (read_lines (m ∷ ls)) ≡ record { refs = rs; end = whole }
+        → (o : Result (Option Ref) Refusal) → Says last direct l o → read_on i last o (read_lines (m ∷ ls)) ≡ record { refs = rs; end = whole }
         → l ++ (10 ∷ joined 10 (m ∷ ls)) ≡ collect ref_line rs
-    go rec (refuse x) q e = absurd (faulty_whole (end_of e))
-    go rec (pass none) q e = absurd (true≢false (sym q ∙ plain_line_lem direct l t.0))
-    go rec (pass (some r)) q e =
+    go rec (Err x) q e = absurd (faulty_whole (end_of e))
+    go rec (Ok None) q e = absurd (true≢false (sym q ∙ plain_line_lem direct l t.0))
+    go rec (Ok (Some r)) q e =
         let rest : Reading = read_lines (m ∷ ls) (i + 1) r.name true in
         let ends : rest.end ≡ whole = end_of e in
         let says : rest ≡ record { refs = rest.refs; end = whole } = ap (λ (x : End). record { refs = rest.refs; end = x }) ends in

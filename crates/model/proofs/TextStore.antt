@@ -1,9 +1,9 @@
 -- The table of a store that obeys the rules, loaded into that store again, leaves it as it is; and what loading leaves alone of any store.
 -- Assumes nothing.
+use Rattle.std.specs.Prelude.{Option, Some, None, Ok}
 use mathlib.Core.Path.{◌≡◌, refl, sym, ap, subst, ◌∙◌}
 use mathlib.Core.Bool.{Bool, true, false, cond, true≢false}
 use mathlib.Core.List.{List, [], ◌∷◌, map}
-use mathlib.Core.Option.{some}
 use mathlib.Core.Logic.{◌⊎◌}
 use mathlib.Core.Logic.◌⊎◌.{inl, inr}
 use Prim.Native.Nat.{ℕ, zero, suc, ◌+◌, ◌≤◌, ◌<◌}
@@ -12,11 +12,8 @@ use lib.ListN.{length, get_or, length-map}
 use borrow.Author.Tests.{not-true}
 use Rattle.word.proofs.Tests.{both_true, every_at, same_list_true, same_list_refl}
 use Rattle.target.specs.declared.ObjectNumber.{ObjectNumber}
-use Rattle.model.specs.declared.Packed.{Packed}
-use Rattle.model.specs.declared.Packed.TheVariants as packed
 use Rattle.model.specs.Names.{same_bytes, before, packable}
 use Rattle.model.specs.Store.{Store, Entry, no_entry, count, entry_at, is_id, put_packed, with_entries}
-use Rattle.model.specs.Outcome.Outcome.{pass}
 use Rattle.model.specs.Fine.{Fine, entry_tests, fine_packed, fine_entry}
 use Rattle.model.specs.Load.{number_from}
 use Rattle.model.specs.PackedText.{Ref, insert, with_packed, sorted, packed_table, unpacked, ref_loaded_as, ref_loaded, loaded}
@@ -60,11 +57,11 @@ module _ (s : Store) (f : Fine s) where
   pub distinct : Distinct s.entries
   distinct = apart_distinct s.entries (λ n h m k. not-true _ (f.apart n h m k))
 
-  loads : (e : Entry) (o : ObjectNumber) → fine_entry (count s) e ≡ true → e.packed ≡ packed.Object o → Loadable (record { name = e.name; object = o.0 })
+  loads : (e : Entry) (o : ObjectNumber) → fine_entry (count s) e ≡ true → e.packed ≡ Some o → Loadable (record { name = e.name; object = o.0 })
   unfolding fine_entry
   loads e o h q =
       let t : (i : ℕ) → get_or (entry_tests (count s) e) i true ≡ true = λ i. every_at (entry_tests (count s) e) i h in
-      let p : fine_packed e.name (packed.Object o) ≡ true = ap (fine_packed e.name) (sym q) ∙ t 2 in
+      let p : fine_packed e.name (Some o) ≡ true = ap (fine_packed e.name) (sym q) ∙ t 2 in
       let b : (is_id o.0 ≡ true) × (packable e.name ≡ true) = both_true (is_id o.0) (packable e.name) p in
       record { name = t 0; id = b.0; packs = b.1 }
 
@@ -101,26 +98,26 @@ abbrev Under : List Entry → List Entry → Type 0
 Under [] [] = Unit {0}
 Under [] (e ∷ es) = ⊥
 Under (x ∷ xs) [] = ⊥
-Under (x ∷ xs) (e ∷ es) = ((x ≡ e) ⊎ (x ≡ put_packed packed.None e)) × Under xs es
+Under (x ∷ xs) (e ∷ es) = ((x ≡ e) ⊎ (x ≡ put_packed None e)) × Under xs es
 
 -- the first entry of that name has that object
 abbrev From : Ref → List Entry → Type 0
 From r [] = ⊥
 From r (e ∷ es) =
-    ((r.name ≡ e.name) × (e.packed ≡ packed.Object (record { 0 = r.object }))) ⊎ ((same_bytes r.name e.name ≡ false) × From r es)
+    ((r.name ≡ e.name) × (e.packed ≡ Some (record { 0 = r.object }))) ⊎ ((same_bytes r.name e.name ≡ false) × From r es)
 
-under_unpacked : (es : List Entry) → Under (map (put_packed packed.None) es) es
+under_unpacked : (es : List Entry) → Under (map (put_packed None) es) es
 under_unpacked [] = tt
 under_unpacked (e ∷ es) = (inr refl, under_unpacked es)
 
-under_name : (x e : Entry) → (x ≡ e) ⊎ (x ≡ put_packed packed.None e) → x.name ≡ e.name
+under_name : (x e : Entry) → (x ≡ e) ⊎ (x ≡ put_packed None e) → x.name ≡ e.name
 under_name x e (inl q) = ap (λ (y : Entry). y.name) q
 under_name x e (inr q) = ap (λ (y : Entry). y.name) q
 
 -- with its own object the entry is itself
-restored : (x e : Entry) (v : Packed) → (x ≡ e) ⊎ (x ≡ put_packed packed.None e) → e.packed ≡ v → put_packed v x ≡ e
-restored x e v (inl q) p = ap (put_packed v) q ∙ ap (λ (w : Packed). put_packed w e) (sym p)
-restored x e v (inr q) p = ap (put_packed v) q ∙ ap (λ (w : Packed). put_packed w e) (sym p)
+restored : (x e : Entry) (v : Option ObjectNumber) → (x ≡ e) ⊎ (x ≡ put_packed None e) → e.packed ≡ v → put_packed v x ≡ e
+restored x e v (inl q) p = ap (put_packed v) q ∙ ap (λ (w : Option ObjectNumber). put_packed w e) (sym p)
+restored x e v (inr q) p = ap (put_packed v) q ∙ ap (λ (w : Option ObjectNumber). put_packed w e) (sym p)
 
 under_put : (r : Ref) (xs es : List Entry) → Under xs es → From r es → Under (put_ref r xs) es
 under_put r [] [] u f = absurd f
@@ -128,12 +125,12 @@ under_put r [] (e ∷ es) u f = absurd u
 under_put r (x ∷ xs) [] u f = absurd u
 under_put r (x ∷ xs) (e ∷ es) (u, us) (inl (n, v)) =
     let q : same_bytes r.name x.name ≡ true = ap (same_bytes r.name) (under_name x e u ∙ sym n) ∙ same_list_refl r.name in
-    rw q (inl (restored x e (packed.Object (record { 0 = r.object })) u v), us)
+    rw q (inl (restored x e (Some (record { 0 = r.object })) u v), us)
 under_put r (x ∷ xs) (e ∷ es) (u, us) (inr (d, f)) =
     let q : same_bytes r.name x.name ≡ false = ap (same_bytes r.name) (under_name x e u) ∙ d in
     rw q (u, under_put r xs es us f)
 
-under_known : (r : Ref) (xs es : List Entry) (i : ℕ) → Under xs es → From r es → (n : ℕ) × (number_from i r.name xs ≡ some n)
+under_known : (r : Ref) (xs es : List Entry) (i : ℕ) → Under xs es → From r es → (n : ℕ) × (number_from i r.name xs ≡ Some n)
 under_known r [] [] i u f = absurd f
 under_known r [] (e ∷ es) i u f = absurd u
 under_known r (x ∷ xs) [] i u f = absurd u
@@ -144,12 +141,12 @@ under_known r (x ∷ xs) (e ∷ es) i (u, us) (inr (d, f)) =
     rw q (under_known r xs es (i + 1) us f)
 
 -- a known name is never refused
-known_loads : (r : Ref) (t : Store) (n : ℕ) → number_from 0 r.name t.entries ≡ some n → (u : Store) × (ref_loaded r t ≡ pass u)
+known_loads : (r : Ref) (t : Store) (n : ℕ) → number_from 0 r.name t.entries ≡ Some n → (u : Store) × (ref_loaded r t ≡ Ok u)
 unfolding ref_loaded
 known_loads r t n e = (_, ap (ref_loaded_as r t) e)
 
 abbrev Loads : List Ref → Store → List Entry → Type 0
-Loads rs t es = (u : Store) × (loaded rs t ≡ pass u) × (u ≡ with_entries t u.entries) × Under u.entries es
+Loads rs t es = (u : Store) × (loaded rs t ≡ Ok u) × (u ≡ with_entries t u.entries) × Under u.entries es
 
 loaded_under : (rs : List Ref) (t : Store) (es : List Entry) → Each (λ r. From r es) rs → Under t.entries es → Loads rs t es
 unfolding loaded
@@ -171,9 +168,9 @@ length_insert r (x ∷ xs) = go (length_insert r xs) (before r.name x.name)
     go rec false = ap suc rec
 
 -- how many refs there are with one entry more
-pub length_packed : (name : List ℕ) (v : Packed) (rs : List Ref) → (length rs ≤ length (with_packed name v rs)) × (length (with_packed name v rs) ≤ suc (length rs))
-length_packed name packed.None rs = (omega arith, omega arith)
-length_packed name (packed.Object o) rs =
+pub length_packed : (name : List ℕ) (v : Option ObjectNumber) (rs : List Ref) → (length rs ≤ length (with_packed name v rs)) × (length (with_packed name v rs) ≤ suc (length rs))
+length_packed name None rs = (omega arith, omega arith)
+length_packed name (Some o) rs =
     let l : length (insert (record { name = name; object = o.0 }) rs) ≡ suc (length rs) = length_insert (record { name = name; object = o.0 }) rs in
     (omega arith, omega arith)
 
@@ -183,9 +180,9 @@ under_fewer [] (e ∷ es) u = absurd u
 under_fewer (x ∷ xs) [] u = absurd u
 under_fewer (x ∷ xs) (e ∷ es) (inl q, us) = rw q (wide e.packed (under_fewer xs es us))
   where
-    wide : (v : Packed) → length (sorted xs) ≤ length (sorted es) → length (with_packed e.name v (sorted xs)) ≤ length (with_packed e.name v (sorted es))
-    wide packed.None h = h
-    wide (packed.Object o) h =
+    wide : (v : Option ObjectNumber) → length (sorted xs) ≤ length (sorted es) → length (with_packed e.name v (sorted xs)) ≤ length (with_packed e.name v (sorted es))
+    wide None h = h
+    wide (Some o) h =
         let a = length_insert (record { name = e.name; object = o.0 }) (sorted xs) in
         let b = length_insert (record { name = e.name; object = o.0 }) (sorted es) in
         omega arith
@@ -207,18 +204,18 @@ under_same (x ∷ xs) (e ∷ es) (u, us) h = go (under_same xs es us) e.packed r
     joins : (length (sorted es) ≤ length (sorted xs) → xs ≡ es) → x ≡ e → length (sorted es) ≤ length (sorted xs) → x ∷ xs ≡ e ∷ es
     joins rec q k = ap (λ (y : Entry). y ∷ xs) q ∙ ap (λ (ys : List Entry). e ∷ ys) (rec k)
 
-    enough : (v : Packed) → length (with_packed e.name v (sorted es)) ≤ length (with_packed e.name v (sorted xs)) → length (sorted es) ≤ length (sorted xs)
-    enough packed.None k = k
-    enough (packed.Object o) k =
+    enough : (v : Option ObjectNumber) → length (with_packed e.name v (sorted es)) ≤ length (with_packed e.name v (sorted xs)) → length (sorted es) ≤ length (sorted xs)
+    enough None k = k
+    enough (Some o) k =
         let a = length_insert (record { name = e.name; object = o.0 }) (sorted xs) in
         let b = length_insert (record { name = e.name; object = o.0 }) (sorted es) in
         omega arith
 
-    go : (length (sorted es) ≤ length (sorted xs) → xs ≡ es) → (v : Packed) → e.packed ≡ v → (x ≡ e) ⊎ (x ≡ put_packed packed.None e) → x ∷ xs ≡ e ∷ es
+    go : (length (sorted es) ≤ length (sorted xs) → xs ≡ es) → (v : Option ObjectNumber) → e.packed ≡ v → (x ≡ e) ⊎ (x ≡ put_packed None e) → x ∷ xs ≡ e ∷ es
     go rec v p (inl q) = joins rec q (enough e.packed (rw q at h))
-    go rec packed.None p (inr q) = joins rec (q ∙ ap (λ (w : Packed). put_packed w e) (sym p)) (rw (q, p) at h)
-    go rec (packed.Object o) p (inr q) =
-        let a : length (with_packed e.name (packed.Object o) (sorted es)) ≤ length (sorted xs) = rw (q, p) at h in
+    go rec None p (inr q) = joins rec (q ∙ ap (λ (w : Option ObjectNumber). put_packed w e) (sym p)) (rw (q, p) at h)
+    go rec (Some o) p (inr q) =
+        let a : length (with_packed e.name (Some o) (sorted es)) ≤ length (sorted xs) = rw (q, p) at h in
         let b = length_insert (record { name = e.name; object = o.0 }) (sorted es) in
         absurd (omega (arith, fewer))
 
@@ -232,11 +229,11 @@ sorted_from (e ∷ es) d = go (later (sorted_from es d.1)) e.packed refl
         (each_sorted (OtherName e.name) (λ (x : Entry). same_bytes e.name x.name ≡ false) (λ x o h q. h) es d.0)
         rec
 
-    go : Each (λ r. From r (e ∷ es)) (sorted es) → (v : Packed) → e.packed ≡ v → Each (λ r. From r (e ∷ es)) (with_packed e.name v (sorted es))
-    go rest packed.None q = rest
-    go rest (packed.Object o) q = each_insert (λ r. From r (e ∷ es)) (record { name = e.name; object = o.0 }) (sorted es) (inl (refl, q)) rest
+    go : Each (λ r. From r (e ∷ es)) (sorted es) → (v : Option ObjectNumber) → e.packed ≡ v → Each (λ r. From r (e ∷ es)) (with_packed e.name v (sorted es))
+    go rest None q = rest
+    go rest (Some o) q = each_insert (λ r. From r (e ∷ es)) (record { name = e.name; object = o.0 }) (sorted es) (inl (refl, q)) rest
 
-pub loaded_same : (s : Store) → Fine s → loaded (packed_table s) (unpacked s) ≡ pass s
+pub loaded_same : (s : Store) → Fine s → loaded (packed_table s) (unpacked s) ≡ Ok s
 unfolding packed_table unpacked
 loaded_same s f =
     let m : Loads (sorted s.entries) (unpacked s) s.entries =
@@ -244,17 +241,17 @@ loaded_same s f =
     let t : sorted m.0.entries ≡ sorted s.entries = loaded_table (sorted s.entries) [] s m.0 (table_chain s f) m.1 in
     let n : length (sorted m.0.entries) ≡ length (sorted s.entries) = ap length t in
     let e : m.0.entries ≡ s.entries = under_same m.0.entries s.entries m.3 (omega arith) in
-    m.1 ∙ ap pass (m.2 ∙ ap (with_entries s) e)
+    m.1 ∙ ap Ok (m.2 ∙ ap (with_entries s) e)
 
 -- ---- what loading leaves alone
 
-module _ {A : Type 0} (g : Entry → A) (r : Ref) (same : (e : Entry) → g (put_packed (packed.Object (record { 0 = r.object })) e) ≡ g e) where
+module _ {A : Type 0} (g : Entry → A) (r : Ref) (same : (e : Entry) → g (put_packed (Some (record { 0 = r.object })) e) ≡ g e) where
   put_keeps : (es : List Entry) (n : ℕ) → n < length es → g (get_or (put_ref r es) n no_entry) ≡ g (get_or es n no_entry)
   put_keeps [] n h = absurd (omega arith)
   put_keeps (e ∷ es) n h = go (put_keeps es) (same_bytes r.name e.name) n h
     where
       go : ((n : ℕ) → n < length es → g (get_or (put_ref r es) n no_entry) ≡ g (get_or es n no_entry)) → (t : Bool) (n : ℕ) → n < suc (length es)
-          → g (get_or (cond t (put_packed (packed.Object (record { 0 = r.object })) e ∷ es) (e ∷ put_ref r es)) n no_entry) ≡ g (get_or (e ∷ es) n no_entry)
+          → g (get_or (cond t (put_packed (Some (record { 0 = r.object })) e ∷ es) (e ∷ put_ref r es)) n no_entry) ≡ g (get_or (e ∷ es) n no_entry)
       go rec true zero h = same e
       go rec true (suc n) h = refl
       go rec false zero h = refl
@@ -264,7 +261,7 @@ put_longer : (r : Ref) (es : List Entry) → length es ≤ length (put_ref r es)
 put_longer r [] = omega arith
 put_longer r (e ∷ es) = go (same_bytes r.name e.name) (put_longer r es)
   where
-    go : (t : Bool) → length es ≤ length (put_ref r es) → suc (length es) ≤ length (cond t (put_packed (packed.Object (record { 0 = r.object })) e ∷ es) (e ∷ put_ref r es))
+    go : (t : Bool) → length es ≤ length (put_ref r es) → suc (length es) ≤ length (cond t (put_packed (Some (record { 0 = r.object })) e ∷ es) (e ∷ put_ref r es))
     go true h = omega arith
     go false h = omega arith
 
@@ -295,7 +292,7 @@ aside_then s t u a b =
       prepared = b.prepared ∙ a.prepared;
     }
 
-pub loaded_aside : (rs : List Ref) (s u : Store) → loaded rs s ≡ pass u → Aside s u
+pub loaded_aside : (rs : List Ref) (s u : Store) → loaded rs s ≡ Ok u → Aside s u
 unfolding loaded
 loaded_aside [] s u e = subst (Aside s) (pass_is e) (record { grown = omega arith; name = λ n h. refl; loose = λ n h. refl; lock = λ n h. refl; packed_lock = refl; lines = refl; setting = refl; prepared = refl })
 loaded_aside (r ∷ rs) s u e =
@@ -305,8 +302,8 @@ loaded_aside (r ∷ rs) s u e =
 pub unpacked_aside : (s : Store) → Aside s (unpacked s)
 unfolding unpacked
 unpacked_aside s =
-    let at : (n : ℕ) → get_or (map (put_packed packed.None) s.entries) n no_entry ≡ put_packed packed.None (entry_at s n) = λ n. mapped_at (put_packed packed.None) refl n s.entries in
-    let l : length (map (put_packed packed.None) s.entries) ≡ length s.entries = length-map s.entries _ in
+    let at : (n : ℕ) → get_or (map (put_packed None) s.entries) n no_entry ≡ put_packed None (entry_at s n) = λ n. mapped_at (put_packed None) refl n s.entries in
+    let l : length (map (put_packed None) s.entries) ≡ length s.entries = length-map s.entries _ in
     record {
       grown = omega arith;
       name = λ n h. ap (λ (e : Entry). e.name) (at n);

@@ -1,19 +1,16 @@
 -- The sorted table: it rises, and refs that rise, loaded into a store without packed values, are its table. Assumes nothing.
+use Rattle.std.specs.Prelude.{Option, Some, None, Ok}
 use mathlib.Core.Path.{◌≡◌, refl, sym, ap, subst, ◌∙◌}
 use mathlib.Core.Bool.{Bool, true, false, cond, true≢false}
 use mathlib.Core.List.{List, [], ◌∷◌, ◌++◌, map, append_assoc, append-nil}
-use mathlib.Core.Option.{Option, none, some}
 use Prim.Native.Nat.{ℕ, suc, ◌+◌, ◌<◌}
 use native.Mathlib.Omega.{arith}
 use lib.ListN.{length, get_or}
 use lib.Dec.{leb}
 use Rattle.word.proofs.Tests.{same_list_true}
 use Rattle.target.specs.declared.ObjectNumber.{ObjectNumber}
-use Rattle.model.specs.declared.Packed.{Packed}
-use Rattle.model.specs.declared.Packed.TheVariants as packed
 use Rattle.model.specs.Names.{same_bytes, before}
 use Rattle.model.specs.Store.{Store, Entry, no_entry, count, put_packed, change_at, with_entries}
-use Rattle.model.specs.Outcome.Outcome.{pass}
 use Rattle.model.specs.Load.{number_from, new_entry}
 use Rattle.model.specs.PackedText.{Ref, insert, with_packed, sorted, packed_table, unpacked, packed_as, ref_loaded_as, ref_loaded, loaded}
 use Rattle.model.proofs.Binds.{pass_is, refuse_pass, none_some, some_is, pass_then}
@@ -91,22 +88,22 @@ Distinct (e ∷ es) = Each (λ (x : Entry). same_bytes e.name x.name ≡ false) 
 
 -- what holds of every entry, as of the ref that it has, holds of every ref
 pub each_sorted : (P : Ref → Type 0) (Q : Entry → Type 0)
-    → ((e : Entry) (o : ObjectNumber) → Q e → e.packed ≡ packed.Object o → P (record { name = e.name; object = o.0 }))
+    → ((e : Entry) (o : ObjectNumber) → Q e → e.packed ≡ Some o → P (record { name = e.name; object = o.0 }))
     → (es : List Entry) → Each Q es → Each P (sorted es)
 each_sorted P Q f [] h = tt
 each_sorted P Q f (e ∷ es) h = go (each_sorted P Q f es h.1) e.packed refl
   where
-    go : Each P (sorted es) → (v : Packed) → e.packed ≡ v → Each P (with_packed e.name v (sorted es))
-    go rec packed.None q = rec
-    go rec (packed.Object o) q = each_insert P (record { name = e.name; object = o.0 }) (sorted es) (f e o h.0 q) rec
+    go : Each P (sorted es) → (v : Option ObjectNumber) → e.packed ≡ v → Each P (with_packed e.name v (sorted es))
+    go rec None q = rec
+    go rec (Some o) q = each_insert P (record { name = e.name; object = o.0 }) (sorted es) (f e o h.0 q) rec
 
 pub sorted_rises : (es : List Entry) → Distinct es → Rising (sorted es)
 sorted_rises [] d = tt
 sorted_rises (e ∷ es) d = go (sorted_rises es d.1) e.packed
   where
-    go : Rising (sorted es) → (v : Packed) → Rising (with_packed e.name v (sorted es))
-    go rec packed.None = rec
-    go rec (packed.Object o) =
+    go : Rising (sorted es) → (v : Option ObjectNumber) → Rising (with_packed e.name v (sorted es))
+    go rec None = rec
+    go rec (Some o) =
         insert_rises (record { name = e.name; object = o.0 }) (sorted es)
         (each_sorted (OtherName e.name) (λ (x : Entry). same_bytes e.name x.name ≡ false) (λ x o h q. h) es d.0)
         rec
@@ -114,7 +111,7 @@ sorted_rises (e ∷ es) d = go (sorted_rises es d.1) e.packed
 -- ---- a ref loaded, entry by entry
 
 abbrev given : Ref → Entry → Entry
-given r e = put_packed (packed.Object (record { 0 = r.object })) e
+given r e = put_packed (Some (record { 0 = r.object })) e
 
 -- the first entry of that name gets the object, and a new name comes last
 abbrev pub put_ref : Ref → List Entry → List Entry
@@ -129,11 +126,11 @@ pub record Found (r : Ref) (es : List Entry) (i n : ℕ) : Type 0 where
   pub name : (get_or es place no_entry).name ≡ r.name
   pub put : change_at (given r) place es ≡ put_ref r es
 
-pub number_found : (r : Ref) (es : List Entry) (i n : ℕ) → number_from i r.name es ≡ some n → Found r es i n
+pub number_found : (r : Ref) (es : List Entry) (i n : ℕ) → number_from i r.name es ≡ Some n → Found r es i n
 number_found r [] i n e = absurd (none_some e)
 number_found r (x ∷ xs) i n e = go (number_found r xs (i + 1) n) (same_bytes r.name x.name) refl e
   where
-    go : (number_from (i + 1) r.name xs ≡ some n → Found r xs (i + 1) n) → (t : Bool) → same_bytes r.name x.name ≡ t → cond t (some i) (number_from (i + 1) r.name xs) ≡ some n → Found r (x ∷ xs) i n
+    go : (number_from (i + 1) r.name xs ≡ Some n → Found r xs (i + 1) n) → (t : Bool) → same_bytes r.name x.name ≡ t → cond t (Some i) (number_from (i + 1) r.name xs) ≡ Some n → Found r (x ∷ xs) i n
     go rec true q e =
         let z : i ≡ n = some_is e in
         record {
@@ -155,32 +152,32 @@ number_found r (x ∷ xs) i n e = go (number_found r xs (i + 1) n) (same_bytes r
           put = rw q (ap (λ (l : List Entry). x ∷ l) f.put);
         }
 
-number_new : (r : Ref) (es : List Entry) (i : ℕ) → number_from i r.name es ≡ none
+number_new : (r : Ref) (es : List Entry) (i : ℕ) → number_from i r.name es ≡ None
     → change_at (given r) (length es) (es ++ (new_entry r.name ∷ [])) ≡ put_ref r es
 number_new r [] i e = refl
 number_new r (x ∷ xs) i e = go (number_new r xs (i + 1)) (same_bytes r.name x.name) refl e
   where
-    go : (number_from (i + 1) r.name xs ≡ none → change_at (given r) (length xs) (xs ++ (new_entry r.name ∷ [])) ≡ put_ref r xs) → (t : Bool) → same_bytes r.name x.name ≡ t → cond t (some i) (number_from (i + 1) r.name xs) ≡ none
+    go : (number_from (i + 1) r.name xs ≡ None → change_at (given r) (length xs) (xs ++ (new_entry r.name ∷ [])) ≡ put_ref r xs) → (t : Bool) → same_bytes r.name x.name ≡ t → cond t (Some i) (number_from (i + 1) r.name xs) ≡ None
         → change_at (given r) (suc (length xs)) (x ∷ (xs ++ (new_entry r.name ∷ []))) ≡ put_ref r (x ∷ xs)
     go rec true q e = absurd (none_some (sym e))
     go rec false q e = rw q (ap (λ (l : List Entry). x ∷ l) (rec e))
 
 -- what loading comes to
-pub put_is : (r : Ref) (s t : Store) → ref_loaded r s ≡ pass t → t ≡ with_entries s (put_ref r s.entries)
+pub put_is : (r : Ref) (s t : Store) → ref_loaded r s ≡ Ok t → t ≡ with_entries s (put_ref r s.entries)
 unfolding ref_loaded
 put_is r s t e = go (number_from 0 r.name s.entries) refl e
   where
-    go : (o : Option ℕ) → number_from 0 r.name s.entries ≡ o → ref_loaded_as r s o ≡ pass t → t ≡ with_entries s (put_ref r s.entries)
-    go (some n) q e =
+    go : (o : Option ℕ) → number_from 0 r.name s.entries ≡ o → ref_loaded_as r s o ≡ Ok t → t ≡ with_entries s (put_ref r s.entries)
+    go (Some n) q e =
         let f : Found r s.entries 0 n = number_found r s.entries 0 n q in
         let a : n ≡ 0 + f.place = f.at in
         let b : n ≡ f.place = omega arith in
         sym (pass_is e) ∙ ap (λ (k : ℕ). with_entries s (change_at (given r) k s.entries)) b ∙ ap (with_entries s) f.put
-    go none q e = new (leb 256 (count s)) refl e
+    go None q e = new (leb 256 (count s)) refl e
       where
-        new : (t₁ : Bool) → leb 256 (count s) ≡ t₁ → ref_loaded_as r s none ≡ pass t → t ≡ with_entries s (put_ref r s.entries)
+        new : (t₁ : Bool) → leb 256 (count s) ≡ t₁ → ref_loaded_as r s None ≡ Ok t → t ≡ with_entries s (put_ref r s.entries)
         new true p e = absurd (refuse_pass (rw p at e))
-        new false p e = let f : pass (packed_as r (count s) (with_entries s (s.entries ++ (new_entry r.name ∷ [])))) ≡ pass t = rw p at e in
+        new false p e = let f : Ok (packed_as r (count s) (with_entries s (s.entries ++ (new_entry r.name ∷ [])))) ≡ Ok t = rw p at e in
             sym (pass_is f) ∙ ap (with_entries s) (number_new r s.entries 0 q)
 
 -- ---- refs that rise, loaded behind those that are there
@@ -189,19 +186,19 @@ put_sorted : (r : Ref) (es : List Entry) → Each (Before r) (sorted es) → sor
 put_sorted r [] h = refl
 put_sorted r (e ∷ es) h = go (put_sorted r es) e.packed refl (same_bytes r.name e.name) refl h
   where
-    go : (Each (Before r) (sorted es) → sorted (put_ref r es) ≡ sorted es ++ (r ∷ [])) → (v : Packed) → e.packed ≡ v → (t : Bool)
+    go : (Each (Before r) (sorted es) → sorted (put_ref r es) ≡ sorted es ++ (r ∷ [])) → (v : Option ObjectNumber) → e.packed ≡ v → (t : Bool)
         → same_bytes r.name e.name ≡ t → Each (Before r) (with_packed e.name v (sorted es))
         → sorted (cond t (given r e ∷ es) (e ∷ put_ref r es)) ≡ with_packed e.name v (sorted es) ++ (r ∷ [])
-    go rec packed.None q true p h =
+    go rec None q true p h =
         ap (λ (n : List ℕ). insert (record { name = n; object = r.object }) (sorted es)) (sym (same_list_true r.name e.name p))
         ∙ insert_last r (sorted es) h
-    go rec packed.None q false p h = ap (λ (v : Packed). with_packed e.name v (sorted (put_ref r es))) q ∙ rec h
-    go rec (packed.Object o) q true p h =
+    go rec None q false p h = ap (λ (v : Option ObjectNumber). with_packed e.name v (sorted (put_ref r es))) q ∙ rec h
+    go rec (Some o) q true p h =
         let a = insert_each (Before r) (record { name = e.name; object = o.0 }) (sorted es) h in
         absurd (true≢false (sym a.0 ∙ ap (λ (n : List ℕ). before n r.name) (sym (same_list_true r.name e.name p)) ∙ before_itself r.name))
-    go rec (packed.Object o) q false p h =
+    go rec (Some o) q false p h =
         let a = insert_each (Before r) (record { name = e.name; object = o.0 }) (sorted es) h in
-        ap (λ (v : Packed). with_packed e.name v (sorted (put_ref r es))) q
+        ap (λ (v : Option ObjectNumber). with_packed e.name v (sorted (put_ref r es))) q
         ∙ ap (insert (record { name = e.name; object = o.0 })) (rec a.1)
         ∙ insert_before (record { name = e.name; object = o.0 }) r (sorted es) a.0
 
@@ -217,7 +214,7 @@ next_ahead xs r (r' ∷ rs) h c =
     (each_weaken (Before r') (Before r) (λ x q. before_trans x.name r.name r'.name q c.1) xs h)
     (c.1, tt)
 
-pub loaded_sorted : (rs : List Ref) (last : List ℕ) (s u : Store) → Chain last rs → Ahead (sorted s.entries) rs → loaded rs s ≡ pass u
+pub loaded_sorted : (rs : List Ref) (last : List ℕ) (s u : Store) → Chain last rs → Ahead (sorted s.entries) rs → loaded rs s ≡ Ok u
     → sorted u.entries ≡ sorted s.entries ++ rs
 unfolding loaded
 loaded_sorted [] last s u c h e = ap (λ (t : Store). sorted t.entries) (sym (pass_is e)) ∙ sym (append-nil (sorted s.entries))
@@ -229,7 +226,7 @@ loaded_sorted (r ∷ rs) last s u c h e =
     ∙ ap (λ (xs : List Ref). xs ++ rs) put
     ∙ append_assoc (sorted s.entries) (r ∷ []) rs)
 
-unpacked_sorted : (es : List Entry) → sorted (map (put_packed packed.None) es) ≡ []
+unpacked_sorted : (es : List Entry) → sorted (map (put_packed None) es) ≡ []
 unpacked_sorted [] = refl
 unpacked_sorted (e ∷ es) = unpacked_sorted es
 
@@ -238,7 +235,7 @@ none_ahead [] = tt
 none_ahead (r ∷ rs) = tt
 
 -- refs that rise, loaded into a store whose packed values are gone, are its table
-pub loaded_table : (rs : List Ref) (last : List ℕ) (s u : Store) → Chain last rs → loaded rs (unpacked s) ≡ pass u → packed_table u ≡ rs
+pub loaded_table : (rs : List Ref) (last : List ℕ) (s u : Store) → Chain last rs → loaded rs (unpacked s) ≡ Ok u → packed_table u ≡ rs
 unfolding packed_table unpacked
 loaded_table rs last s u c e =
     loaded_sorted rs last (unpacked s) u c (subst (λ (xs : List Ref). Ahead xs rs) (sym (unpacked_sorted s.entries)) (none_ahead rs)) e

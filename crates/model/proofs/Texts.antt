@@ -1,4 +1,6 @@
 -- What specs/Texts.antt states, proved. Assumes nothing.
+use Rattle.std.specs.Prelude.{Result, Ok, Err}
+use Rattle.model.specs.declared.Refusal.{Refusal}
 use mathlib.Core.Path.{◌≡◌, refl, sym, ap, ◌∙◌}
 use mathlib.Core.Bool.{Bool, true, false}
 use mathlib.Core.List.{List, [], ◌∷◌, ◌++◌}
@@ -9,8 +11,6 @@ use Rattle.word.proofs.Tests.{true_both}
 use Rattle.model.specs.Basic.{all, collect}
 use Rattle.model.specs.Names.{before, pieces}
 use Rattle.model.specs.Store.{Store, Entry, count, is_prepared}
-use Rattle.model.specs.Outcome.{Outcome}
-use Rattle.model.specs.Outcome.Outcome.{refuse, pass}
 use Rattle.model.specs.Reply.{Given}
 use Rattle.model.specs.Reply.Call.{read_packed}
 use Rattle.model.specs.Reply.Reply.{done, refused}
@@ -90,7 +90,7 @@ written_is_read s h = written_read (packed_table s) 1 [] false (table_chain s (r
 
 -- what a reading that is done came to
 pub record DoneReading (t : List ℕ) (s u : Store) : Type 0 where
-  pub loads : loaded (read_text t).refs (unpacked s) ≡ pass u
+  pub loads : loaded (read_text t).refs (unpacked s) ≡ Ok u
   pub ends : (read_text t).end ≡ whole
 
 refused_done : {x : _} {u : Store} {g : Given} → refused x ≡ done u g → ⊥
@@ -106,12 +106,12 @@ done_reading t s u g e = go (is_prepared s.prepared) refl (loaded (read_text t).
     n : Given
     n = number (length (read_text t).refs)
 
-    go : (b : Bool) → is_prepared s.prepared ≡ b → (o : Outcome Store) → loaded (read_text t).refs (unpacked s) ≡ o → (x : End) → (read_text t).end ≡ x
+    go : (b : Bool) → is_prepared s.prepared ≡ b → (o : Result Store Refusal) → loaded (read_text t).refs (unpacked s) ≡ o → (x : End) → (read_text t).end ≡ x
         → DoneReading t s u
     go true p o q x r = absurd (refused_done (rw p at e))
-    go false p (refuse y) q x r = absurd (refused_done (rw (p, q) at e))
-    go false p (pass v) q (faulty i y) r = absurd (refused_done (rw (p, q, r) at e))
-    go false p (pass v) q whole r = record { loads = q ∙ ap pass (store_of (rw (p, q, r) at e)); ends = r }
+    go false p (Err y) q x r = absurd (refused_done (rw (p, q) at e))
+    go false p (Ok v) q (faulty i y) r = absurd (refused_done (rw (p, q, r) at e))
+    go false p (Ok v) q whole r = record { loads = q ∙ ap Ok (store_of (rw (p, q, r) at e)); ends = r }
 
 chain_of : (t : List ℕ) → Chain [] (read_text t).refs
 unfolding read_text

@@ -1,8 +1,9 @@
 -- What the turns of R3 and R5 leave: rows alike, fine, and with the existing value of each name in its row. Assumes nothing.
+use Rattle.std.specs.Prelude.{Option, Some, None, Result, Ok, Err}
+use Rattle.target.specs.declared.Target.{Target}
 use mathlib.Core.Path.{◌≡◌, refl, sym, ap, subst, ◌∙◌}
 use mathlib.Core.Bool.{Bool, true, false, ◌&&◌, not, cond}
 use mathlib.Core.List.{List, [], ◌∷◌, map}
-use mathlib.Core.Option.{Option, none, some}
 use Prim.Native.Nat.{ℕ, zero, suc, ◌+◌, ◌<◌, ◌^◌}
 use native.Mathlib.Omega.{arith}
 use lib.ListN.{length, get_or, set, get_or-map}
@@ -11,11 +12,7 @@ use lib.Dec.{ltb, eqb}
 use borrow.Author.Tests.{eqb-true, eqb-false}
 use Rattle.target.specs.declared.NameNumber.{NameNumber}
 use Rattle.target.specs.declared.ObjectNumber.{ObjectNumber}
-use Rattle.target.specs.declared.OptionObject.{OptionObject}
-use Rattle.target.specs.declared.OptionObject.TheVariants.{NoId, Id}
 use Rattle.target.specs.declared.Target.TheVariants.{Object, Symbolic}
-use Rattle.target.specs.declared.OptionTarget.{OptionTarget}
-use Rattle.target.specs.declared.OptionTarget.TheVariants.{Absent, Present}
 use Rattle.transaction.specs.declared.PreviousValue.TheVariants.{Any, MustExist, MustNotExist, MustExistAndMatch, ExistingMustMatch}
 use Rattle.transaction.specs.declared.Change.{Change}
 use Rattle.transaction.specs.declared.Change.TheVariants.{Update, Delete}
@@ -28,8 +25,7 @@ use Rattle.model.specs.Store.{Store, no_row, count, entry_of, name_of}
 use Rattle.model.specs.Read.{value_of}
 use Rattle.model.specs.Rows.{name_in, change_in, row_at, ancestors, direct, keeps, is_direct}
 use Rattle.model.specs.Beneath.{would_write, conflicts}
-use Rattle.model.specs.Outcome.{Outcome, ◌>>◌}
-use Rattle.model.specs.Outcome.Outcome.{refuse, pass}
+use Rattle.model.specs.Outcome.{◌>>◌}
 use Rattle.model.specs.Judge.{judge}
 use Rattle.model.specs.Fine.{fine_option, Fine}
 use Rattle.model.specs.Prepare.{existing, conflict_test, lock_test, first_refusal, observing, observed, with_leaf, handed_to, handed_on, turned, turn, turns_from}
@@ -41,35 +37,35 @@ use Rattle.model.proofs.Valued.{Valued, AllValued, existing_fine, rows_valued, a
 
 -- ---- observing an existing value
 
-unexpecting_observing : (c : Change) (x : OptionTarget) → unexpecting (observing c x) ≡ unexpecting c
-unexpecting_observing c Absent = refl
-unexpecting_observing (Update log expected new) (Present t) = refl
-unexpecting_observing (Delete expected log) (Present t) = refl
+unexpecting_observing : (c : Change) (x : Option Target) → unexpecting (observing c x) ≡ unexpecting c
+unexpecting_observing c None = refl
+unexpecting_observing (Update log expected new) (Some t) = refl
+unexpecting_observing (Delete expected log) (Some t) = refl
 
 observing_fine :
-    (n : ℕ) (c : Change) (x : OptionTarget)
+    (n : ℕ) (c : Change) (x : Option Target)
     → fine_option n (previous_value c) ≡ true → fine_option n x ≡ true → fine_option n (previous_value (observing c x)) ≡ true
-observing_fine n c Absent p q = p
-observing_fine n (Update log expected new) (Present t) p q = q
-observing_fine n (Delete expected log) (Present t) p q = q
+observing_fine n c None p q = p
+observing_fine n (Update log expected new) (Some t) p q = q
+observing_fine n (Delete expected log) (Some t) p q = q
 
-unrefused : {q : Refusal} → some q ≡ none → ⊥
+unrefused : {q : Refusal} → Some q ≡ None → ⊥
 unrefused h = let z : ◌≡◌ {A = ℕ} 0 1 = cc in omega arith
 
 -- in a row that passes its test, the existing value is the one observed
-observing_agrees : (n : NameNumber) (c : Change) (x : OptionTarget) → judge n c x ≡ none → existing_in (observing c x) ≡ x
-observing_agrees n (Update log Any new) Absent h = refl
-observing_agrees n (Update log MustExist new) Absent h = refl
-observing_agrees n (Update log MustNotExist new) Absent h = refl
-observing_agrees n (Update log (MustExistAndMatch t) new) Absent h = absurd (unrefused h)
-observing_agrees n (Update log (ExistingMustMatch t) new) Absent h = refl
-observing_agrees n (Update log expected new) (Present t) h = refl
-observing_agrees n (Delete Any log) Absent h = refl
-observing_agrees n (Delete MustExist log) Absent h = refl
-observing_agrees n (Delete MustNotExist log) Absent h = refl
-observing_agrees n (Delete (MustExistAndMatch t) log) Absent h = absurd (unrefused h)
-observing_agrees n (Delete (ExistingMustMatch t) log) Absent h = refl
-observing_agrees n (Delete expected log) (Present t) h = refl
+observing_agrees : (n : NameNumber) (c : Change) (x : Option Target) → judge n c x ≡ None → existing_in (observing c x) ≡ x
+observing_agrees n (Update log Any new) None h = refl
+observing_agrees n (Update log MustExist new) None h = refl
+observing_agrees n (Update log MustNotExist new) None h = refl
+observing_agrees n (Update log (MustExistAndMatch t) new) None h = absurd (unrefused h)
+observing_agrees n (Update log (ExistingMustMatch t) new) None h = refl
+observing_agrees n (Update log expected new) (Some t) h = refl
+observing_agrees n (Delete Any log) None h = refl
+observing_agrees n (Delete MustExist log) None h = refl
+observing_agrees n (Delete MustNotExist log) None h = refl
+observing_agrees n (Delete (MustExistAndMatch t) log) None h = absurd (unrefused h)
+observing_agrees n (Delete (ExistingMustMatch t) log) None h = refl
+observing_agrees n (Delete expected log) (Some t) h = refl
 
 -- ---- handing a leaf-previous on
 
@@ -81,19 +77,19 @@ module _ {A : Type 0} (f : Edit → A) (h : (o : ObjectNumber) (r : Edit) → f 
       handed_to_map ps o (set rows p (with_leaf o (row_at rows p)))
       ∙ map-set_same f rows p (with_leaf o (row_at rows p)) no_row (h o (row_at rows p))
 
-  handed_on_map : (x : OptionObject) (ps : List ℕ) (rows : List Edit) → map f (handed_on x ps rows) ≡ map f rows
-  handed_on_map NoId ps rows = refl
-  handed_on_map (Id o) ps rows = handed_to_map ps o rows
+  handed_on_map : (x : Option ObjectNumber) (ps : List ℕ) (rows : List Edit) → map f (handed_on x ps rows) ≡ map f rows
+  handed_on_map None ps rows = refl
+  handed_on_map (Some o) ps rows = handed_to_map ps o rows
 
 -- the object of a fine target fits 64 bits
-abbrev fitting : OptionObject → Type 0
-fitting NoId = Unit {0}
-fitting (Id o) = ltb o.0 (2 ^ 64) ≡ true
+abbrev fitting : Option ObjectNumber → Type 0
+fitting None = Unit {0}
+fitting (Some o) = ltb o.0 (2 ^ 64) ≡ true
 
-fine_fits : (n : ℕ) (x : OptionTarget) → fine_option n x ≡ true → fitting (id_of x)
-fine_fits n Absent h = tt
-fine_fits n (Present (Object o)) h = (both_true (ltb 0 o.0) _ h).1
-fine_fits n (Present (Symbolic m)) h = tt
+fine_fits : (n : ℕ) (x : Option Target) → fine_option n x ≡ true → fitting (id_of x)
+fine_fits n None h = tt
+fine_fits n (Some (Object o)) h = (both_true (ltb 0 o.0) _ h).1
+fine_fits n (Some (Symbolic m)) h = tt
 
 module _ (n : ℕ) where
   set_valued : (rows : List Edit) (i : ℕ) (r : Edit) → Valued n r → AllValued n rows → AllValued n (set rows i r)
@@ -112,9 +108,9 @@ module _ (n : ℕ) where
       (set_valued rows p (with_leaf o (row_at rows p)) (record { previous = (v p).previous; leaf = f }) v)
 
   handed_on_valued :
-      (x : OptionObject) (ps : List ℕ) (rows : List Edit) → fitting x → AllValued n rows → AllValued n (handed_on x ps rows)
-  handed_on_valued NoId ps rows f v = v
-  handed_on_valued (Id o) ps rows f v = handed_to_valued ps o rows f v
+      (x : Option ObjectNumber) (ps : List ℕ) (rows : List Edit) → fitting x → AllValued n rows → AllValued n (handed_on x ps rows)
+  handed_on_valued None ps rows f v = v
+  handed_on_valued (Some o) ps rows f v = handed_to_valued ps o rows f v
 
 -- ---- one turn
 
@@ -127,7 +123,7 @@ agreed_update s opened a b u = subst (λ (x : RefEdit). existing_in x.change ≡
 
 module _ (s : Store) (opened : Bool) (rows : List Edit) (i : ℕ) where
   -- the value there at its turn, and the row with it
-  abbrev there : OptionTarget
+  abbrev there : Option Target
   there = existing s opened (row_at rows i)
 
   abbrev seen : Edit
@@ -162,7 +158,7 @@ module _ (s : Store) (opened : Bool) (rows : List Edit) (i : ℕ) where
       ∙ get_or-map (λ (r : Edit). r.update) (set rows i seen) j no_row
 
   turned_here :
-      i < length rows → judge (name_in (row_at rows i)) (change_in (row_at rows i)) there ≡ none
+      i < length rows → judge (name_in (row_at rows i)) (change_in (row_at rows i)) there ≡ None
       → Agreed s opened (row_at (turned s opened rows i) i)
   turned_here h e =
       agreed_update s opened (row_at (turned s opened rows i) i) seen
@@ -175,29 +171,29 @@ module _ (s : Store) (opened : Bool) (rows : List Edit) (i : ℕ) where
       (turned_update j ∙ ap (λ (r : Edit). r.update) (get_or-set_other rows i j seen no_row d))
 
 -- three tests and what follows: they passed, and it followed
-passed : {A : Type 0} (a b c : Option Refusal) (x y : A) → (first_refusal (a ∷ b ∷ c ∷ []) >> pass x) ≡ pass y
-    → (a ≡ none) × ((c ≡ none) × (x ≡ y))
-passed none none none x y h = (refl, (refl, cc))
-passed none none (some q) x y h = absurd (let z : ◌≡◌ {A = ℕ} 0 1 = cc in omega arith)
-passed none (some p) c x y h = absurd (let z : ◌≡◌ {A = ℕ} 0 1 = cc in omega arith)
-passed (some p) b c x y h = absurd (let z : ◌≡◌ {A = ℕ} 0 1 = cc in omega arith)
+passed : {A : Type 0} (a b c : Option Refusal) (x y : A) → (first_refusal (a ∷ b ∷ c ∷ []) >> Ok x) ≡ Ok y
+    → (a ≡ None) × ((c ≡ None) × (x ≡ y))
+passed None None None x y h = (refl, (refl, cc))
+passed None None (Some q) x y h = absurd (let z : ◌≡◌ {A = ℕ} 0 1 = cc in omega arith)
+passed None (Some p) c x y h = absurd (let z : ◌≡◌ {A = ℕ} 0 1 = cc in omega arith)
+passed (Some p) b c x y h = absurd (let z : ◌≡◌ {A = ℕ} 0 1 = cc in omega arith)
 
 -- a test that refuses nothing
-untested : (t : Bool) (q : Refusal) → cond t (some q) none ≡ none → t ≡ false
+untested : (t : Bool) (q : Refusal) → cond t (Some q) None ≡ None → t ≡ false
 untested true q h = absurd (unrefused h)
 untested false q h = refl
 
 -- what a row would write is asked the same once its existing value is observed
-would_observed : (s : Store) (mode : PackedRefs) (r : Edit) (y x : OptionTarget) → would_write s mode (observed r y) x ≡ would_write s mode r x
+would_observed : (s : Store) (mode : PackedRefs) (r : Edit) (y x : Option Target) → would_write s mode (observed r y) x ≡ would_write s mode r x
 unfolding would_write is_direct
 would_observed s mode r y x = go (change_in r) y
   where
-    go : (c : Change) (y : OptionTarget)
+    go : (c : Change) (y : Option Target)
         → (not (is_delete (observing c y)) && not (is_log_only (observing c y)) && not (direct mode (name_of s (name_in r)) (observing c y)) && keeps mode (name_of s (name_in r)) (observing c y) x)
         ≡ (not (is_delete c) && not (is_log_only c) && not (direct mode (name_of s (name_in r)) c) && keeps mode (name_of s (name_in r)) c x)
-    go c Absent = refl
-    go (Update log expected new) (Present t) = refl
-    go (Delete expected log) (Present t) = refl
+    go c None = refl
+    go (Update log expected new) (Some t) = refl
+    go (Delete expected log) (Some t) = refl
 
 -- ---- all turns
 
@@ -213,7 +209,7 @@ module _ (s : Store) (f : Fine s) (mode : PackedRefs) (opened : Bool) (split : L
   Before i rows = Turning s mode opened split i rows
 
   one_turn :
-      (i : ℕ) (rows next : List Edit) → i < length split → Before i rows → turn s mode opened rows i ≡ pass next → Before (i + 1) next
+      (i : ℕ) (rows next : List Edit) → i < length split → Before i rows → turn s mode opened rows i ≡ Ok next → Before (i + 1) next
   unfolding turn
   one_turn i rows next h t e = subst (Before (i + 1)) went.1.1 (record {
     alike = turned_alike s opened rows i ∙ t.alike;
@@ -223,8 +219,8 @@ module _ (s : Store) (f : Fine s) (mode : PackedRefs) (opened : Bool) (split : L
   })
     where
       went :
-          (conflict_test s mode opened rows i ≡ none)
-          × ((judge (name_in (row_at rows i)) (change_in (row_at rows i)) (there s opened rows i) ≡ none)
+          (conflict_test s mode opened rows i ≡ None)
+          × ((judge (name_in (row_at rows i)) (change_in (row_at rows i)) (there s opened rows i) ≡ None)
           × (turned s opened rows i ≡ next))
       went = passed (conflict_test s mode opened rows i) (lock_test s rows i) _ _ _ e
 
@@ -279,7 +275,7 @@ module _ (s : Store) (f : Fine s) (mode : PackedRefs) (opened : Bool) (split : L
       unrefused_at j k false q = let d : j ≡ i → ⊥ = eqb-false j i q in clear_other j (omega arith)
 
   all_turns :
-      (k i : ℕ) (rows last : List Edit) → i + k ≡ length split → Before i rows → turns_from s mode opened k i rows ≡ pass last
+      (k i : ℕ) (rows last : List Edit) → i + k ≡ length split → Before i rows → turns_from s mode opened k i rows ≡ Ok last
       → Before (length split) last
   unfolding turns_from
   all_turns zero i rows last h t e =
@@ -290,14 +286,14 @@ module _ (s : Store) (f : Fine s) (mode : PackedRefs) (opened : Bool) (split : L
     where
       Rest : List Edit → Type 0
       Rest next =
-          i + 1 + k ≡ length split → Before (i + 1) next → turns_from s mode opened k (i + 1) next ≡ pass last
+          i + 1 + k ≡ length split → Before (i + 1) next → turns_from s mode opened k (i + 1) next ≡ Ok last
           → Before (length split) last
 
-      go : (o : Outcome (List Edit)) → turn s mode opened rows i ≡ o → ((next : List Edit) → Rest next) → Before (length split) last
-      go (refuse q) p rest =
-          let w : refuse q ≡ pass last = rw p at e in
+      go : (o : Result (List Edit) Refusal) → turn s mode opened rows i ≡ o → ((next : List Edit) → Rest next) → Before (length split) last
+      go (Err q) p rest =
+          let w : Err q ≡ Ok last = rw p at e in
           absurd (let z : ◌≡◌ {A = ℕ} 0 1 = cc in omega arith)
-      go (pass next) p rest = rest next (omega arith) (one_turn i rows next (omega arith) t p) (rw p at e)
+      go (Ok next) p rest = rest next (omega arith) (one_turn i rows next (omega arith) t p) (rw p at e)
 
 -- the rows that the turns leave
 pub record Turned (s : Store) (mode : PackedRefs) (opened : Bool) (split rows : List Edit) : Type 0 where
@@ -308,7 +304,7 @@ pub record Turned (s : Store) (mode : PackedRefs) (opened : Bool) (split rows : 
 
 pub turns_fine :
     (s : Store) → Fine s → (mode : PackedRefs) (opened : Bool) (split rows : List Edit) → RowsFine (count s) split
-    → turns_from s mode opened (length split) 0 split ≡ pass rows → Turned s mode opened split rows
+    → turns_from s mode opened (length split) 0 split ≡ Ok rows → Turned s mode opened split rows
 turns_fine s f mode opened split rows g e = record {
   alike = t.alike;
   fine = alike_fine (count s) rows split t.alike t.valued g;

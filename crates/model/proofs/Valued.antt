@@ -1,5 +1,7 @@
 -- The values in rows: that the expected targets and the leaf-previous are fine, and that rows alike to fine ones, with such
 -- values, are fine. What a name reads is fine too. Assumes nothing.
+use Rattle.std.specs.Prelude.{Option, Some, None}
+use Rattle.target.specs.declared.ObjectNumber.{ObjectNumber}
 use mathlib.Core.Path.{◌≡◌, refl}
 use mathlib.Core.Bool.{Bool, true, false}
 use mathlib.Core.List.{List}
@@ -13,8 +15,6 @@ use Rattle.transaction.specs.declared.Edit.{Edit}
 use Rattle.transaction.specs.Change.{new_value, previous_value, message_of}
 use Rattle.model.specs.declared.Loose.{Loose}
 use Rattle.model.specs.declared.Loose.TheVariants as loose
-use Rattle.model.specs.declared.Packed.{Packed}
-use Rattle.model.specs.declared.Packed.TheVariants as packed
 use Rattle.model.specs.Store.{Store, Entry, no_row, no_entry, count, entry_of, is_id}
 use Rattle.model.specs.Read.{packed_seen, found_in, value_of}
 use Rattle.model.specs.Rows.{name_in, change_in, row_at}
@@ -28,15 +28,15 @@ use Rattle.model.proofs.Alike.{Alike, new_plain, message_plain, alike_length, al
 -- ---- what a name reads, with the packed table seen or not
 
 module _ (n : ℕ) where
-  found_fine : (name : List ℕ) (l : Loose) (p : Packed) → fine_loose n l ≡ true → fine_packed name p ≡ true
+  found_fine : (name : List ℕ) (l : Loose) (p : Option ObjectNumber) → fine_loose n l ≡ true → fine_packed name p ≡ true
       → fine_option n (value_in (found_in l p)) ≡ true
   found_fine name (loose.Target t) p f g = f
-  found_fine name loose.None (packed.Object o) f g = (both_true (is_id o.0) _ g).0
-  found_fine name loose.Broken (packed.Object o) f g = (both_true (is_id o.0) _ g).0
-  found_fine name loose.None packed.None f g = refl
-  found_fine name loose.Broken packed.None f g = refl
+  found_fine name loose.None (Some o) f g = (both_true (is_id o.0) _ g).0
+  found_fine name loose.Broken (Some o) f g = (both_true (is_id o.0) _ g).0
+  found_fine name loose.None None f g = refl
+  found_fine name loose.Broken None f g = refl
 
-  seen_fine : (name : List ℕ) (seen : Bool) (p : Packed) → fine_packed name p ≡ true → fine_packed name (packed_seen seen p) ≡ true
+  seen_fine : (name : List ℕ) (seen : Bool) (p : Option ObjectNumber) → fine_packed name p ≡ true → fine_packed name (packed_seen seen p) ≡ true
   seen_fine name true p h = h
   seen_fine name false p h = refl
 

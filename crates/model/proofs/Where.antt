@@ -1,11 +1,12 @@
 -- The places that reads answer: the proofs of the statements of specs/Where.antt. Assumes nothing.
+use Rattle.std.specs.Prelude.{None, Result, Ok, Err}
+use Rattle.model.specs.declared.Refusal.{Refusal}
 use mathlib.Core.Path.{◌≡◌, refl, sym, ap, ap₂, ◌∙◌, subst, fun_ext}
 use mathlib.Core.Bool.{Bool, true, false≢true}
 use mathlib.Core.List.{List, map}
 use mathlib.Core.Logic.◌⊎◌.{inl, inr}
 use Prim.Native.Nat.{ℕ}
 use native.Mathlib.Omega.{arith}
-use Rattle.target.specs.declared.OptionTarget.TheVariants.{Absent}
 use Rattle.target.specs.declared.Found.{Found}
 use Rattle.target.specs.declared.Found.TheVariants as found
 use Rattle.target.specs.Found.{value_in}
@@ -15,8 +16,6 @@ use Rattle.transaction.specs.Change.{existing_in}
 use Rattle.model.specs.Store.{Store, Prepared, entry_at, rows_in, is_prepared}
 use Rattle.model.specs.Read.{found_of}
 use Rattle.model.specs.Rows.{name_in, change_in, row_at, opens}
-use Rattle.model.specs.Outcome.{Outcome}
-use Rattle.model.specs.Outcome.Outcome.{refuse, pass}
 use Rattle.model.specs.Fine.{Fine}
 use Rattle.model.specs.Prepare.{existing_found, rows_for, held}
 use Rattle.model.specs.Reply.Call.{prepare}
@@ -34,7 +33,7 @@ use Rattle.model.proofs.Kept.{call_kept, reached_sound}
 
 -- ---- the place and the value
 
-missing_absent : (x : Found) → Missing x → value_in x ≡ Absent
+missing_absent : (x : Found) → Missing x → value_in x ≡ None
 missing_absent (found.Loose t) (inl h) = absurd (omega arith)
 missing_absent (found.Loose t) (inr h) = absurd (omega arith)
 missing_absent (found.Packed o) (inl h) = absurd (omega arith)
@@ -44,7 +43,7 @@ missing_absent (found.PackedBehindBroken o) (inr h) = absurd (omega arith)
 missing_absent found.Absent h = refl
 missing_absent found.AbsentBehindBroken h = refl
 
-absent_missing : (x : Found) → value_in x ≡ Absent → Missing x
+absent_missing : (x : Found) → value_in x ≡ None → Missing x
 absent_missing (found.Loose t) h = absurd (let z : ◌≡◌ {A = ℕ} 0 1 = cc in omega arith)
 absent_missing (found.Packed o) h = absurd (let z : ◌≡◌ {A = ℕ} 0 1 = cc in omega arith)
 absent_missing (found.PackedBehindBroken o) h = absurd (let z : ◌≡◌ {A = ℕ} 0 1 = cc in omega arith)
@@ -74,23 +73,23 @@ module _ (s : Store) (mode : PackedRefs) (split rows : List Edit) where
       ap (λ (f : Edit → Found). map f rows) (fun_ext (held_row (alike_opens rows split t.alike s mode)))
       ∙ alike_map rows split t.alike (existing_found s (opens s mode split)) (λ r. refl)
 
-prepare_found : (s : Store) → Fine s → (list : List ℕ) (number : ℕ) (p : Prepared) → rows_for list number s ≡ pass p
-    → readings list number s ≡ pass (rows_found (held p s))
+prepare_found : (s : Store) → Fine s → (list : List ℕ) (number : ℕ) (p : Prepared) → rows_for list number s ≡ Ok p
+    → readings list number s ≡ Ok (rows_found (held p s))
 unfolding readings
 prepare_found s f list number p e =
     let c = came list number s p e in
     let t : Turned s c.mode (opens s c.mode c.split) c.split c.rows =
     turns_fine s f c.mode (opens s c.mode c.split) c.split c.rows (came_split list number s p f c) c.turned in
-    subst (λ (q : Prepared). readings list number s ≡ pass (rows_found (held q s))) (sym c.left)
-    (rw (c.is_list, c.is_mode, c.is_split, c.opened) (ap pass (sym (held_found s c.mode c.split c.rows t))))
+    subst (λ (q : Prepared). readings list number s ≡ Ok (rows_found (held q s))) (sym c.left)
+    (rw (c.is_list, c.is_mode, c.is_split, c.opened) (ap Ok (sym (held_found s c.mode c.split c.rows t))))
 
 pub as_read : AsRead
 unfolding step rows_prepared
 as_read s reached list mode t g h = go (rows_for list mode s) refl
   where
-    go : (o : Outcome Prepared) → rows_for list mode s ≡ o → readings list mode s ≡ pass (rows_found t)
-    go (refuse r) e = absurd (let q = rw e at h in let z : ◌≡◌ {A = ℕ} 0 1 = cc in omega arith)
-    go (pass p) e =
+    go : (o : Result Prepared Refusal) → rows_for list mode s ≡ o → readings list mode s ≡ Ok (rows_found t)
+    go (Err r) e = absurd (let q = rw e at h in let z : ◌≡◌ {A = ℕ} 0 1 = cc in omega arith)
+    go (Ok p) e =
         let q = rw e at h in
         let left : held p s ≡ t = cc in
         rw (← left) (prepare_found s (reached_sound s reached).fine list mode p e)

@@ -1,6 +1,6 @@
 -- Names beneath names: number 25, on the values before the transaction. Packed values play no part.
-use Rattle.std.specs.Prelude.{Bool, ◌&&◌, ◌||◌, not, List, ℕ}
-use Rattle.target.specs.declared.OptionTarget.{OptionTarget}
+use Rattle.target.specs.declared.Target.{Target}
+use Rattle.std.specs.Prelude.{Bool, ◌&&◌, ◌||◌, not, List, ℕ, Option}
 use Rattle.transaction.specs.declared.PackedRefs.{PackedRefs}
 use Rattle.transaction.specs.declared.Edit.{Edit}
 use Rattle.transaction.specs.Change.{is_log_only, is_delete, existing_in}
@@ -27,7 +27,7 @@ loose_beneath s n = some_below (count s) (λ m. is_loose s m && lies s m n)
 
 -- 25 (b), (c): the row would write a loose value in W1: an update, not log-only, not direct, that keeps its lock by R4 with the
 -- existing value, whatever it expects
-unfoldable pub would_write : Store → PackedRefs → Edit → OptionTarget → Bool
+unfoldable pub would_write : Store → PackedRefs → Edit → Option Target → Bool
 would_write s mode r existing =
     not (is_delete (change_in r))
     && not (is_log_only (change_in r))
@@ -45,7 +45,7 @@ meets_earlier s mode rows i =
     some_below i (λ j. will_write s mode (row_at rows j) && (lies s n (name_in (row_at rows j)).0 || lies s (name_in (row_at rows j)).0 n))
 
 -- 25, of the row at place i with this existing value: (a), whatever the row does; or it would write a loose value, and (b) or (c)
-unfoldable pub conflicts : Store → PackedRefs → List Edit → ℕ → OptionTarget → Bool
+unfoldable pub conflicts : Store → PackedRefs → List Edit → ℕ → Option Target → Bool
 conflicts s mode rows i existing =
     let n : ℕ = (name_in (row_at rows i)).0 in
     loose_above s n || (would_write s mode (row_at rows i) existing && (loose_beneath s n || meets_earlier s mode rows i))

@@ -1,6 +1,5 @@
 -- Transactions, reads and the packed table as text, and the step: the 15 calls as one function.
-use Rattle.std.specs.Prelude.{true, not, List, ℕ, length, get_or, ltb, leb}
-use Rattle.std.proofs.Math.Option.{Option, none, some}
+use Rattle.std.specs.Prelude.{true, not, List, ℕ, length, get_or, ltb, leb, Option, Some, None}
 use Rattle.target.specs.declared.Found.{Found}
 use Rattle.transaction.specs.declared.Edit.{Edit}
 use Rattle.model.specs.declared.Refusal.TheVariants.{Malformed, WrongState, NothingThere, TextTooLong}
@@ -26,8 +25,8 @@ rows_prepared list mode s = do
   done (held p s) (number (length p.rows))
 
 abbrev pub ended : Run → Option Stop → Reply
-ended r none = done (released r.store) (number r.made)
-ended r (some why) = stopped why (released r.store) r.made
+ended r None = done (released r.store) (number r.made)
+ended r (Some why) = stopped why (released r.store) r.made
 
 -- 15 while nothing is prepared, 2 a committer past 65,535. It reports the writes made
 unfoldable pub committed : ℕ → ℕ → Store → Reply

@@ -1,6 +1,5 @@
 -- Commit, write by write, and rollback.
-use Rattle.std.specs.Prelude.{Bool, true, false, ◌&&◌, cond, List, [], ◌∷◌, map, ℕ, zero, suc, ◌+◌, length, eqb}
-use Rattle.std.proofs.Math.Option.{Option, none, some}
+use Rattle.std.specs.Prelude.{Bool, true, false, ◌&&◌, cond, List, [], ◌∷◌, map, ℕ, zero, suc, ◌+◌, length, eqb, Option, Some, None}
 use Rattle.model.specs.declared.Lock.{Lock}
 use Rattle.model.specs.declared.Lock.TheVariants.{Free, Foreign, Ours}
 use Rattle.model.specs.Basic.{select}
@@ -22,7 +21,7 @@ released s = record {
   packed_lock = freed s.packed_lock;
   lines = s.lines;
   setting = s.setting;
-  prepared = none;
+  prepared = None;
 }
 
 -- ---- commit
@@ -51,11 +50,11 @@ lines_in ws = length (select is_line ws)
 
 -- before each write: allowance used up, 17; else a log line without committer, 16
 unfoldable pub run : Stamp → ℕ → List Write → ℕ → Store → Run
-run stamp allowance [] made s = record { store = s; made = made; stop = none }
-run stamp zero (w ∷ ws) made s = record { store = s; made = made; stop = some used_up }
+run stamp allowance [] made s = record { store = s; made = made; stop = None }
+run stamp zero (w ∷ ws) made s = record { store = s; made = made; stop = Some used_up }
 run stamp (suc k) (w ∷ ws) made s =
     cond (is_line w && eqb stamp.committer 0)
-    (record { store = s; made = made; stop = some no_committer })
+    (record { store = s; made = made; stop = Some no_committer })
     (run stamp k ws (made + 1) (apply w s))
 
 unfoldable pub committing : Stamp → ℕ → Store → Run

@@ -1,10 +1,8 @@
 -- Demand 3, sentence by sentence: what is proved of every reached store with a transaction prepared, every committer and every
 -- stop. The proofs stand in proofs/Demand3.antt.
-use Rattle.std.specs.Prelude.{◌≡◌, true, false, cond, List, [], ◌∷◌, map, ◌⊎◌, ℕ, ◌≤◌, ◌<◌, min, length, take, eqb}
-use Rattle.std.proofs.Math.Option.{Option, none, some}
+use Rattle.target.specs.declared.Target.{Target}
+use Rattle.std.specs.Prelude.{◌≡◌, true, false, cond, List, [], ◌∷◌, map, ◌⊎◌, ℕ, ◌≤◌, ◌<◌, min, length, take, eqb, Option, Some, None}
 use Rattle.target.specs.declared.NameNumber.{NameNumber}
-use Rattle.target.specs.declared.OptionTarget.{OptionTarget}
-use Rattle.target.specs.declared.OptionTarget.TheVariants.{Absent}
 use Rattle.transaction.specs.declared.Edit.{Edit}
 use Rattle.transaction.specs.Change.{new_value, is_log_only, is_delete}
 use Rattle.transaction.specs.Fields.{packed_refs_number}
@@ -49,34 +47,34 @@ abbrev pub stop_at : ℕ → ℕ → Store → Store
 stop_at c k s = leaves (step (commit c k) s) s
 
 abbrev pub count_in : Given → Option ℕ
-count_in nothing = none
-count_in (number n) = some n
-count_in (bytes_of n) = none
-count_in (value x) = none
-count_in (line l) = none
-count_in (row r x) = none
-count_in (written t) = none
+count_in nothing = None
+count_in (number n) = Some n
+count_in (bytes_of n) = None
+count_in (value x) = None
+count_in (line l) = None
+count_in (row r x) = None
+count_in (written t) = None
 
 abbrev pub reported : Reply → Option ℕ
 reported (done s given) = count_in given
-reported (stopped why s made) = some made
-reported (refused r) = none
+reported (stopped why s made) = Some made
+reported (refused r) = None
 
 -- names with their loose and packed values, whatever their locks
 abbrev pub refs : Store → List Entry
 refs s = map (put_lock Free) s.entries
 
 -- a row's old value is what its name reads; its new value: for log-only, its old; for delete, absent; else new
-abbrev pub old : Store → Edit → OptionTarget
+abbrev pub old : Store → Edit → Option Target
 old s r = reading s (name_in r)
 
-abbrev pub new : Store → Edit → OptionTarget
+abbrev pub new : Store → Edit → Option Target
 new s r = cond (is_log_only (change_in r)) (old s r) (new_value (change_in r))
 
 -- a row that deletes a name which read present before
 pub record Deletes (s : Store) (r : Edit) : Type 0 where
   pub is_delete : is_delete (change_in r) ≡ true
-  pub present : old s r ≡ Absent → ⊥
+  pub present : old s r ≡ None → ⊥
 
 -- ---- a
 
@@ -84,11 +82,11 @@ pub record Deletes (s : Store) (r : Edit) : Type 0 where
 -- ordered writes made, or all where there are fewer; the setting as it was, the transaction gone and our locks free, other locks as
 -- they were; and the count reported is that of the writes made, the least of k and the list's length.
 pub record StoppedAt (c k : ℕ) (s : Store) : Type 0 where
-  pub count : reported (step (commit c k) s) ≡ some (min k (length (commit_writes c s)))
+  pub count : reported (step (commit c k) s) ≡ Some (min k (length (commit_writes c s)))
   pub refs : refs (stop_at c k s) ≡ refs (apply_all (take k (commit_writes c s)) s)
   pub logs : (stop_at c k s).lines ≡ (apply_all (take k (commit_writes c s)) s).lines
   pub setting : (stop_at c k s).setting ≡ s.setting
-  pub gone : (stop_at c k s).prepared ≡ none
+  pub gone : (stop_at c k s).prepared ≡ None
   pub free : (n : ℕ) → is_lock Ours (entry_at (stop_at c k s) n).lock ≡ false
   pub packed_free : is_lock Ours (stop_at c k s).packed_lock ≡ false
   pub foreign : (n : ℕ) → is_lock Foreign (entry_at (stop_at c k s) n).lock ≡ is_lock Foreign (entry_at s n).lock
@@ -133,7 +131,7 @@ abbrev pub D : Type 0
 D =
     (s : Store) → Reached s → is_prepared s.prepared ≡ true
     → (c k i : ℕ) → i < length (rows s) → Deletes s (row_at (rows s) i)
-    → reading (stop_at c k s) (name_in (row_at (rows s) i)) ≡ Absent
+    → reading (stop_at c k s) (name_in (row_at (rows s) i)) ≡ None
     → lines_of (stop_at c k s) (name_in (row_at (rows s) i)) ≡ []
 
 -- ---- e
@@ -143,7 +141,7 @@ abbrev pub E : Type 0
 E =
     (s : Store) → Reached s → is_prepared s.prepared ≡ true → packed_refs_number (mode_in s.prepared) ≤ 2
     → (c k i j : ℕ) → i < length (rows s) → j < length (rows s)
-    → Deletes s (row_at (rows s) i) → reading (stop_at c k s) (name_in (row_at (rows s) i)) ≡ Absent
+    → Deletes s (row_at (rows s) i) → reading (stop_at c k s) (name_in (row_at (rows s) i)) ≡ None
     → is_delete (change_in (row_at (rows s) j)) ≡ false
     → reading (stop_at c k s) (name_in (row_at (rows s) j)) ≡ new s (row_at (rows s) j)
 

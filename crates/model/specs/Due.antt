@@ -1,9 +1,7 @@
 -- The log line that an update row is due.
-use Rattle.std.specs.Prelude.{Bool, ◌&&◌, ◌||◌, not, cond, List, [], ◌∷◌, map, ℕ}
+use Rattle.std.specs.Prelude.{Bool, ◌&&◌, ◌||◌, not, cond, List, [], ◌∷◌, map, ℕ, Option, Some, None}
 use Rattle.target.specs.declared.NameNumber.{NameNumber}
 use Rattle.target.specs.declared.ObjectNumber.{ObjectNumber}
-use Rattle.target.specs.declared.OptionObject.{OptionObject}
-use Rattle.target.specs.declared.OptionObject.TheVariants.{NoId, Id}
 use Rattle.target.specs.declared.Target.{Target}
 use Rattle.target.specs.declared.Target.TheVariants.{Object, Symbolic}
 use Rattle.target.specs.Target.{same_object, try_id}
@@ -31,9 +29,9 @@ pub record Move : Type 0 where
 abbrev pub null : ObjectNumber
 null = record { 0 = 0 }
 
-abbrev pub or_leaf : OptionObject → ObjectNumber → ObjectNumber
-or_leaf NoId leaf = leaf
-or_leaf (Id o) leaf = o
+abbrev pub or_leaf : Option ObjectNumber → ObjectNumber → ObjectNumber
+or_leaf None leaf = leaf
+or_leaf (Some o) leaf = o
 
 -- commit.rs gives previous and new of an object: what was there, else the leaf-previous. Equal means none
 abbrev pub object_move : PreviousValue → ObjectNumber → ObjectNumber → List Move
@@ -42,9 +40,9 @@ object_move expected leaf new =
     when (not (same_object previous new)) (record { previous = previous; new = new })
 
 -- a symbolic new target has a line only where expected is still 4 with an object: previous 0, new that object
-abbrev pub clone_move : OptionObject → List Move
-clone_move NoId = []
-clone_move (Id o) = record { previous = null; new = o } ∷ []
+abbrev pub clone_move : Option ObjectNumber → List Move
+clone_move None = []
+clone_move (Some o) = record { previous = null; new = o } ∷ []
 
 abbrev pub symbolic_move : PreviousValue → List Move
 symbolic_move Any = []

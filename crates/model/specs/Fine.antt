@@ -1,19 +1,14 @@
 -- The rules that every store obeys: as one record, and as one test.
-use Rattle.std.specs.Prelude.{◌≡◌, Bool, true, ◌&&◌, not, List, [], ◌∷◌, ℕ, ◌+◌, ◌≤◌, ◌<◌, ◌^◌, length, get_or, eqb, ltb, leb}
+use Rattle.target.specs.declared.ObjectNumber.{ObjectNumber}
+use Rattle.std.specs.Prelude.{◌≡◌, Bool, true, ◌&&◌, not, List, [], ◌∷◌, ℕ, ◌+◌, ◌≤◌, ◌<◌, ◌^◌, length, get_or, eqb, ltb, leb, Option, Some, None}
 use Rattle.std.specs.Bool.{beq}
 use Rattle.target.specs.declared.Target.{Target}
 use Rattle.target.specs.declared.Target.TheVariants.{Object, Symbolic}
-use Rattle.target.specs.declared.OptionTarget.{OptionTarget}
-use Rattle.target.specs.declared.OptionTarget.TheVariants.{Absent, Present}
-use Rattle.transaction.specs.declared.ParentIndex.{ParentIndex}
-use Rattle.transaction.specs.declared.ParentIndex.TheVariants.{NoParent, Parent}
 use Rattle.transaction.specs.declared.PackedRefs.{PackedRefs}
 use Rattle.transaction.specs.declared.Edit.{Edit}
 use Rattle.transaction.specs.Change.{new_value, previous_value, message_of, existing_in}
 use Rattle.model.specs.declared.Loose.{Loose}
 use Rattle.model.specs.declared.Loose.TheVariants as loose
-use Rattle.model.specs.declared.Packed.{Packed}
-use Rattle.model.specs.declared.Packed.TheVariants as packed
 use Rattle.model.specs.declared.Lock.TheVariants.{Ours}
 use Rattle.model.specs.declared.Line.{Line}
 use Rattle.model.specs.Basic.{any, every, Below, below}
@@ -30,9 +25,9 @@ abbrev pub fine_target : ℕ → Target → Bool
 fine_target n (Object o) = is_id o.0
 fine_target n (Symbolic m) = ltb m.0 n
 
-abbrev pub fine_option : ℕ → OptionTarget → Bool
-fine_option n Absent = true
-fine_option n (Present t) = fine_target n t
+abbrev pub fine_option : ℕ → Option Target → Bool
+fine_option n None = true
+fine_option n (Some t) = fine_target n t
 
 -- loose: none, a target, or broken
 abbrev pub fine_loose : ℕ → Loose → Bool
@@ -41,9 +36,9 @@ fine_loose n (loose.Target t) = fine_target n t
 fine_loose n loose.Broken = true
 
 -- packed: none, or an object where the name is packable
-abbrev pub fine_packed : List ℕ → Packed → Bool
-fine_packed name packed.None = true
-fine_packed name (packed.Object o) = is_id o.0 && packable name
+abbrev pub fine_packed : List ℕ → Option ObjectNumber → Bool
+fine_packed name None = true
+fine_packed name (Some o) = is_id o.0 && packable name
 
 abbrev pub entry_tests : ℕ → Entry → List Bool
 entry_tests n e = is_name e.name ∷ fine_loose n e.loose ∷ fine_packed e.name e.packed ∷ []
@@ -68,9 +63,9 @@ fine_line n l = every (line_tests n l)
 -- ---- rows
 
 -- the parent is an earlier row, or none
-abbrev pub fine_parent : ℕ → ParentIndex → Bool
-fine_parent i NoParent = true
-fine_parent i (Parent j) = ltb j i
+abbrev pub fine_parent : ℕ → Option ℕ → Bool
+fine_parent i None = true
+fine_parent i (Some j) = ltb j i
 
 -- each parent among the first n rows is an earlier row, or none: so the climb ends, since the place falls
 pub record Upward (n : ℕ) (rows : List Edit) : Type 0 where

@@ -1,11 +1,10 @@
 -- Start, names, loads and foreign locks. Refusals go by number, 15 first.
-use Rattle.std.specs.Prelude.{Bool, ◌&&◌, ◌||◌, not, cond, List, [], ◌∷◌, ◌++◌, ℕ, zero, suc, ◌+◌, eqb, ltb, leb}
-use Rattle.std.proofs.Math.Option.{Option, none, some}
+use Rattle.model.specs.declared.Refusal.{Refusal}
+use Rattle.target.specs.declared.ObjectNumber.{ObjectNumber}
+use Rattle.std.specs.Prelude.{Bool, ◌&&◌, ◌||◌, not, cond, List, [], ◌∷◌, ◌++◌, ℕ, zero, suc, ◌+◌, eqb, ltb, leb, Option, Some, None, Result, Ok, Err}
 use Rattle.target.specs.declared.Target.TheVariants.{Object, Symbolic}
 use Rattle.model.specs.declared.Loose.{Loose}
 use Rattle.model.specs.declared.Loose.TheVariants as loose
-use Rattle.model.specs.declared.Packed.{Packed}
-use Rattle.model.specs.declared.Packed.TheVariants as packed
 use Rattle.model.specs.declared.Lock.{Lock}
 use Rattle.model.specs.declared.Lock.TheVariants.{Free, Foreign}
 use Rattle.model.specs.declared.Lockable.{Lockable}
@@ -16,8 +15,7 @@ use Rattle.model.specs.declared.Refusal.TheVariants.{Malformed, NotRegistered, B
 use Rattle.model.specs.Names.{is_name, same_bytes, packable}
 use Rattle.model.specs.Store.{Store, Entry, empty, count, entry_at, entry_of, is_lock, is_id, is_none, put_loose, put_packed, put_lock, change_entry, with_entries, with_packed_lock}
 use Rattle.model.specs.Beneath.{loose_above, loose_beneath}
-use Rattle.model.specs.Outcome.{Outcome, refuse_if, or_refuse}
-use Rattle.model.specs.Outcome.Outcome.{refuse, pass}
+use Rattle.model.specs.Outcome.{refuse_if, or_refuse}
 use Rattle.model.specs.Reply.{Reply, ◌>>=◌, ◌>>◌, known, idle}
 use Rattle.model.specs.Reply.Reply.{done}
 use Rattle.model.specs.Reply.Given.{nothing, number, bytes_of}
@@ -25,10 +23,15 @@ use Rattle.model.specs.Reply.Given.{nothing, number, bytes_of}
 -- ---- start: 0 never, 1 normal, 2 always
 
 abbrev pub setting_of : ℕ → Option WriteReflog
-setting_of zero = some Disable
-setting_of (suc zero) = some Normal
-setting_of (suc (suc zero)) = some Always
-setting_of (suc (suc (suc n))) = none
+setting_of zero = Some Disable
+setting_of (suc zero) = Some Normal
+setting_of (suc (suc zero)) = Some Always
+setting_of (suc (suc (suc n))) = None
+
+abbrev pub setting_byte : WriteReflog → ℕ
+setting_byte Disable = 0
+setting_byte Normal = 1
+setting_byte Always = 2
 
 unfoldable pub started : ℕ → Reply
 started k = do
@@ -39,16 +42,16 @@ started k = do
 
 -- the number of the first entry with the name, counted from i
 abbrev pub number_from : ℕ → List ℕ → List Entry → Option ℕ
-number_from i name [] = none
-number_from i name (e ∷ es) = cond (same_bytes name e.name) (some i) (number_from (i + 1) name es)
+number_from i name [] = None
+number_from i name (e ∷ es) = cond (same_bytes name e.name) (Some i) (number_from (i + 1) name es)
 
 abbrev pub new_entry : List ℕ → Entry
-new_entry name = record { name = name; loose = loose.None; packed = packed.None; lock = Free }
+new_entry name = record { name = name; loose = loose.None; packed = None; lock = Free }
 
 -- adding a known name gives its old number; a new one is 19 where 256 are held
 abbrev pub added_as : List ℕ → Store → Option ℕ → Reply
-added_as name s (some n) = done s (number n)
-added_as name s none = do
+added_as name s (Some n) = done s (number n)
+added_as name s None = do
   refuse_if (leb 256 (count s)) NamesFull
   done (with_entries s (s.entries ++ (new_entry name ∷ []))) (number (count s))
 
@@ -66,11 +69,11 @@ bytes_given n s = do
 
 -- kind 0 none, 1 object, 2 link, 3 broken. 21: object 0, bad kind, a number beside none or broken
 abbrev pub loose_of : ℕ → ℕ → Option Loose
-loose_of zero x = cond (eqb x 0) (some loose.None) none
-loose_of (suc zero) x = cond (is_id x) (some (loose.Target (Object (record { 0 = x })))) none
-loose_of (suc (suc zero)) x = some (loose.Target (Symbolic (record { 0 = x })))
-loose_of (suc (suc (suc zero))) x = cond (eqb x 0) (some loose.Broken) none
-loose_of (suc (suc (suc (suc k)))) x = none
+loose_of zero x = cond (eqb x 0) (Some loose.None) None
+loose_of (suc zero) x = cond (is_id x) (Some (loose.Target (Object (record { 0 = x })))) None
+loose_of (suc (suc zero)) x = Some (loose.Target (Symbolic (record { 0 = x })))
+loose_of (suc (suc (suc zero))) x = cond (eqb x 0) (Some loose.Broken) None
+loose_of (suc (suc (suc (suc k)))) x = None
 
 -- 21 too: a loose value, broken too, beneath another or above one
 unfoldable pub nests : Store → ℕ → Loose → Bool
@@ -86,10 +89,10 @@ loose_loaded n kind x s = do
   done (change_entry (put_loose v) n s) nothing
 
 -- kind 0 none, 1 object. 21 too: a packed value on an unpackable name
-abbrev pub packed_of : List ℕ → ℕ → ℕ → Option Packed
-packed_of name zero x = cond (eqb x 0) (some packed.None) none
-packed_of name (suc zero) x = cond (is_id x && packable name) (some (packed.Object (record { 0 = x }))) none
-packed_of name (suc (suc k)) x = none
+abbrev pub packed_of : List ℕ → ℕ → ℕ → Option (Option ObjectNumber)
+packed_of name zero x = cond (eqb x 0) (Some None) None
+packed_of name (suc zero) x = cond (is_id x && packable name) (Some (Some (record { 0 = x }))) None
+packed_of name (suc (suc k)) x = None
 
 unfoldable pub packed_loaded : ℕ → ℕ → ℕ → Store → Reply
 packed_loaded n kind x s = do
@@ -102,10 +105,10 @@ packed_loaded n kind x s = do
 
 -- what is locked. Kind 0 a name: 3 where the number is not registered. Kind 1 the packed table: the number is not looked at. 2: another
 -- kind
-abbrev pub lockable : ℕ → ℕ → Store → Outcome Lockable
-lockable zero n s = cond (ltb n (count s)) (pass (Name (record { 0 = n }))) (refuse (NotRegistered n))
-lockable (suc zero) n s = pass PackedTable
-lockable (suc (suc k)) n s = refuse Malformed
+abbrev pub lockable : ℕ → ℕ → Store → Result Lockable Refusal
+lockable zero n s = cond (ltb n (count s)) (Ok (Name (record { 0 = n }))) (Err (NotRegistered n))
+lockable (suc zero) n s = Ok PackedTable
+lockable (suc (suc k)) n s = Err Malformed
 
 abbrev pub lock_of : Lockable → Store → Lock
 lock_of (Name n) s = (entry_of s n).lock

@@ -1,6 +1,5 @@
 -- 2026-05: two lock calls for four. Each does what the old call of its kind did. The proof stands in proofs/Locks.antt.
-use Rattle.std.specs.Prelude.{◌≡◌, not, ℕ, zero, suc}
-use Rattle.std.proofs.Math.Option.{Option, none, some}
+use Rattle.std.specs.Prelude.{◌≡◌, not, ℕ, zero, suc, Option, Some, None}
 use Rattle.model.specs.declared.Lock.TheVariants.{Free, Foreign}
 use Rattle.model.specs.declared.Refusal.TheVariants.{Malformed, WrongLock}
 use Rattle.model.specs.Store.{Store, entry_at, is_lock, put_lock, change_entry, with_packed_lock}
@@ -39,19 +38,19 @@ step_before unlock_packed s = do
 -- ---- which of them a kind and a number stand for
 
 abbrev pub placing : ℕ → ℕ → Option Before
-placing zero n = some (lock_name n)
-placing (suc zero) n = some lock_packed
-placing (suc (suc k)) n = none
+placing zero n = Some (lock_name n)
+placing (suc zero) n = Some lock_packed
+placing (suc (suc k)) n = None
 
 abbrev pub lifting : ℕ → ℕ → Option Before
-lifting zero n = some (unlock_name n)
-lifting (suc zero) n = some unlock_packed
-lifting (suc (suc k)) n = none
+lifting zero n = Some (unlock_name n)
+lifting (suc zero) n = Some unlock_packed
+lifting (suc (suc k)) n = None
 
 -- what it did; a kind that none of them had is 2
 abbrev pub did_before : Option Before → Store → Reply
-did_before none s = refused Malformed
-did_before (some b) s = step_before b s
+did_before None s = refused Malformed
+did_before (Some b) s = step_before b s
 
 -- So of every kind, number and store.
 abbrev pub AsBefore : Type 0

@@ -1,13 +1,9 @@
 -- Numbers a caller gets: the number of a reply, and the places of the answer record that go with it.
-use Rattle.std.specs.Prelude.{Bool, true, false, List, [], ◌∷◌, ◌++◌, ℕ, ◌-◌, length, replicate}
+use Rattle.std.specs.Prelude.{Bool, true, false, List, [], ◌∷◌, ◌++◌, ℕ, ◌-◌, length, replicate, Option, Some, None}
 use Rattle.target.specs.declared.Target.{Target}
-use Rattle.target.specs.declared.OptionTarget.{OptionTarget}
-use Rattle.target.specs.declared.OptionTarget.TheVariants.{Present}
 use Rattle.target.specs.declared.Found.{Found}
 use Rattle.target.specs.Found.{value_in}
 use Rattle.target.specs.Fields.{target_byte, target_number, place_number}
-use Rattle.transaction.specs.declared.ParentIndex.{ParentIndex}
-use Rattle.transaction.specs.declared.ParentIndex.TheVariants.{NoParent, Parent}
 use Rattle.transaction.specs.declared.Edit.{Edit}
 use Rattle.transaction.specs.Change.{new_value, previous_value, expected_of, log_of, force_of, message_of}
 use Rattle.transaction.specs.Fields.{change_byte, ref_log_byte, previous_byte}
@@ -31,11 +27,11 @@ abbrev pub answer : ℕ → List ℕ → Answer
 answer n ps = record { number = n; places = ps ++ replicate (16 - length ps) 0 }
 
 -- a target is two places, kind and number
-abbrev pub option_places : OptionTarget → List ℕ
+abbrev pub option_places : Option Target → List ℕ
 option_places t = target_byte t ∷ target_number t ∷ []
 
 abbrev pub target_places : Target → List ℕ
-target_places t = option_places (Present t)
+target_places t = option_places (Some t)
 
 -- what a name reads is three: the value's two, and where it was found
 abbrev pub found_places : Found → List ℕ
@@ -82,9 +78,9 @@ abbrev pub flag : Bool → ℕ
 flag false = 0
 flag true = 1
 
-abbrev pub parent_places : ParentIndex → List ℕ
-parent_places NoParent = 0 ∷ 0 ∷ []
-parent_places (Parent j) = 1 ∷ j ∷ []
+abbrev pub parent_places : Option ℕ → List ℕ
+parent_places None = 0 ∷ 0 ∷ []
+parent_places (Some j) = 1 ∷ j ∷ []
 
 -- name, kind, log, force, message, expected, expected target, new target, parent, leaf-previous
 abbrev pub row_places : Edit → List ℕ

@@ -1,17 +1,14 @@
 -- 2026-07: the packed table as text, in lines as git's packed-refs file has them. A line, the sorted table, the text of a store; what a text
 -- says, up to its first line at fault; and what reading it does to a store.
-use Rattle.std.specs.Prelude.{Bool, true, false, ◌&&◌, ◌||◌, not, cond, List, [], ◌∷◌, ◌++◌, map, ℕ, zero, suc, ◌+◌, ◌-◌, ◌*◌, ◌/◌, ◌%◌, length, get_or, take, drop, eqb, ltb, leb}
-use Rattle.std.proofs.Math.Option.{Option, none, some}
+use Rattle.target.specs.declared.ObjectNumber.{ObjectNumber}
+use Rattle.std.specs.Prelude.{Bool, true, false, ◌&&◌, ◌||◌, not, cond, List, [], ◌∷◌, ◌++◌, map, ℕ, zero, suc, ◌+◌, ◌-◌, ◌*◌, ◌/◌, ◌%◌, length, get_or, take, drop, eqb, ltb, leb, Option, Some, None, Result, Ok, Err}
 use Rattle.word.specs.Be.{cut}
-use Rattle.model.specs.declared.Packed.{Packed}
-use Rattle.model.specs.declared.Packed.TheVariants as packed
 use Rattle.model.specs.declared.Refusal.{Refusal}
 use Rattle.model.specs.declared.Refusal.TheVariants.{NamesFull, BadLoad, MalformedLine}
 use Rattle.model.specs.Basic.{text, every, all, collect, is_empty}
 use Rattle.model.specs.Names.{between, is_char, under, before, pieces, is_name, packable}
 use Rattle.model.specs.Store.{Store, Entry, count, is_id, put_packed, change_entry, with_entries}
-use Rattle.model.specs.Outcome.{Outcome, refuse_if, ◌>>=◌, ◌>>◌}
-use Rattle.model.specs.Outcome.Outcome.{refuse, pass}
+use Rattle.model.specs.Outcome.{refuse_if, ◌>>=◌, ◌>>◌}
 use Rattle.model.specs.Load.{number_from, new_entry}
 
 -- ---- a line
@@ -44,9 +41,9 @@ abbrev pub insert : Ref → List Ref → List Ref
 insert r [] = r ∷ []
 insert r (x ∷ xs) = cond (before r.name x.name) (r ∷ x ∷ xs) (x ∷ insert r xs)
 
-abbrev pub with_packed : List ℕ → Packed → List Ref → List Ref
-with_packed name packed.None rs = rs
-with_packed name (packed.Object o) rs = insert (record { name = name; object = o.0 }) rs
+abbrev pub with_packed : List ℕ → Option ObjectNumber → List Ref → List Ref
+with_packed name None rs = rs
+with_packed name (Some o) rs = insert (record { name = name; object = o.0 }) rs
 
 -- the refs of the entries that have a packed value, in byte order
 abbrev pub sorted : List Entry → List Ref
@@ -82,7 +79,7 @@ ref_tests l =
     ∷ []
 
 unfoldable pub ref_in : List ℕ → Option Ref
-ref_in l = cond (every (ref_tests l)) (some (record { name = drop 41 l; object = digits_from 0 (cut 24 16 l) })) none
+ref_in l = cond (every (ref_tests l)) (Some (record { name = drop 41 l; object = digits_from 0 (cut 24 16 l) })) None
 
 -- a comment line, and a line of `^` and 40 digits of any value
 abbrev pub is_comment : List ℕ → Bool
@@ -92,17 +89,17 @@ unfoldable pub is_peeled : List ℕ → Bool
 is_peeled l = under "^" l && eqb (length l) 41 && all is_digit (drop 1 l)
 
 -- 27: a line that is no ref line, or whose name does not stand behind that of the last ref line. 21: an object 0, a name that is not packable
-abbrev pub ref_said : ℕ → List ℕ → Option Ref → Outcome (Option Ref)
-ref_said i last none = refuse (MalformedLine i)
-ref_said i last (some r) = do
+abbrev pub ref_said : ℕ → List ℕ → Option Ref → Result (Option Ref) Refusal
+ref_said i last None = Err (MalformedLine i)
+ref_said i last (Some r) = do
   refuse_if (not (before last r.name)) (MalformedLine i)
   refuse_if (not (is_id r.object && packable r.name)) BadLoad
-  pass (some r)
+  Ok (Some r)
 
 -- line i, where `last` is the name of the last ref line, empty before the first, and `direct` says that this is the line just before.
 -- Comments say nothing, and so does a `^` line directly after a ref line
-unfoldable pub line_said : ℕ → List ℕ → Bool → List ℕ → Outcome (Option Ref)
-line_said i last direct l = cond (is_comment l || (direct && is_peeled l)) (pass none) (ref_said i last (ref_in l))
+unfoldable pub line_said : ℕ → List ℕ → Bool → List ℕ → Result (Option Ref) Refusal
+line_said i last direct l = cond (is_comment l || (direct && is_peeled l)) (Ok None) (ref_said i last (ref_in l))
 
 -- ---- what a text says
 
@@ -117,10 +114,10 @@ pub record Reading : Type 0 where
   pub end : End
 
 -- on from line i
-abbrev pub read_on : ℕ → List ℕ → Outcome (Option Ref) → (ℕ → List ℕ → Bool → Reading) → Reading
-read_on i last (refuse r) next = record { refs = []; end = faulty i r }
-read_on i last (pass none) next = next (i + 1) last false
-read_on i last (pass (some r)) next = let rest : Reading = next (i + 1) r.name true in record { refs = r ∷ rest.refs; end = rest.end }
+abbrev pub read_on : ℕ → List ℕ → Result (Option Ref) Refusal → (ℕ → List ℕ → Bool → Reading) → Reading
+read_on i last (Err r) next = record { refs = []; end = faulty i r }
+read_on i last (Ok None) next = next (i + 1) last false
+read_on i last (Ok (Some r)) next = let rest : Reading = next (i + 1) r.name true in record { refs = r ∷ rest.refs; end = rest.end }
 
 -- the lines are what stands before the line feeds. Behind the last one nothing may stand: 27
 unfoldable pub read_lines : List (List ℕ) → ℕ → List ℕ → Bool → Reading
@@ -135,27 +132,27 @@ read_text t = read_lines (pieces line_feed t) 1 [] false
 
 -- no packed values
 unfoldable pub unpacked : Store → Store
-unpacked s = with_entries s (map (put_packed packed.None) s.entries)
+unpacked s = with_entries s (map (put_packed None) s.entries)
 
 -- the object becomes the packed value of name n
 abbrev pub packed_as : Ref → ℕ → Store → Store
-packed_as r n s = change_entry (put_packed (packed.Object (record { 0 = r.object }))) n s
+packed_as r n s = change_entry (put_packed (Some (record { 0 = r.object }))) n s
 
 -- a name that is not known is added: 19 where 256 are held
-abbrev pub ref_loaded_as : Ref → Store → Option ℕ → Outcome Store
-ref_loaded_as r s (some n) = pass (packed_as r n s)
-ref_loaded_as r s none = do
+abbrev pub ref_loaded_as : Ref → Store → Option ℕ → Result Store Refusal
+ref_loaded_as r s (Some n) = Ok (packed_as r n s)
+ref_loaded_as r s None = do
   refuse_if (leb 256 (count s)) NamesFull
-  pass (packed_as r (count s) (with_entries s (s.entries ++ (new_entry r.name ∷ []))))
+  Ok (packed_as r (count s) (with_entries s (s.entries ++ (new_entry r.name ∷ []))))
 
-unfoldable pub ref_loaded : Ref → Store → Outcome Store
+unfoldable pub ref_loaded : Ref → Store → Result Store Refusal
 ref_loaded r s = ref_loaded_as r s (number_from 0 r.name s.entries)
 
 -- refs in line order
-unfoldable pub loaded : List Ref → Store → Outcome Store
-loaded [] s = pass s
+unfoldable pub loaded : List Ref → Store → Result Store Refusal
+loaded [] s = Ok s
 loaded (r ∷ rs) s = ref_loaded r s >>= loaded rs
 
-abbrev pub judged : End → Outcome (Unit {0})
-judged whole = pass tt
-judged (faulty i r) = refuse r
+abbrev pub judged : End → Result (Unit {0}) Refusal
+judged whole = Ok tt
+judged (faulty i r) = Err r

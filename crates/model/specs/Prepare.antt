@@ -1,11 +1,7 @@
 -- Preparing, rule by rule: R2 to R5 and the refusals in order.
-use Rattle.std.specs.Prelude.{Bool, ◌&&◌, cond, List, [], ◌∷◌, map, ℕ, zero, suc, ◌+◌, length, set, ltb}
-use Rattle.std.proofs.Math.Option.{Option, none, some}
-use Rattle.target.specs.declared.OptionObject.{OptionObject}
-use Rattle.target.specs.declared.OptionObject.TheVariants.{NoId, Id}
+use Rattle.target.specs.declared.Target.{Target}
+use Rattle.std.specs.Prelude.{Bool, ◌&&◌, cond, List, [], ◌∷◌, map, ℕ, zero, suc, ◌+◌, length, set, ltb, Option, Some, None, Result, Ok, Err}
 use Rattle.target.specs.declared.ObjectNumber.{ObjectNumber}
-use Rattle.target.specs.declared.OptionTarget.{OptionTarget}
-use Rattle.target.specs.declared.OptionTarget.TheVariants.{Absent, Present}
 use Rattle.target.specs.declared.Found.{Found}
 use Rattle.target.specs.Found.{value_in}
 use Rattle.transaction.specs.declared.PreviousValue.TheVariants.{MustExistAndMatch}
@@ -15,7 +11,7 @@ use Rattle.transaction.specs.declared.PackedRefs.{PackedRefs}
 use Rattle.transaction.specs.declared.RefEdit.{RefEdit}
 use Rattle.transaction.specs.declared.Edit.{Edit}
 use Rattle.transaction.specs.Change.{previous_oid, row_of}
-use Rattle.transaction.specs.Fields.{packed_refs_of, packed_refs_option}
+use Rattle.transaction.specs.Fields.{packed_refs_of}
 use Rattle.model.specs.declared.Lock.TheVariants.{Foreign, Ours}
 use Rattle.model.specs.declared.Refusal.{Refusal}
 use Rattle.model.specs.declared.Refusal.TheVariants.{Malformed, NotRegistered, PackedTransactionAcquire, LockAcquire, LogFull, WrongState, NameConflict}
@@ -24,8 +20,7 @@ use Rattle.model.specs.Store.{Store, Entry, Prepared, count, entry_of, is_prepar
 use Rattle.model.specs.Read.{found_of}
 use Rattle.model.specs.Rows.{name_in, change_in, row_at, ancestors, topmost, counts, opens, keeps_lock}
 use Rattle.model.specs.EditList.{edits_of, numbers_of, first_out}
-use Rattle.model.specs.Outcome.{Outcome, ◌>>=◌, ◌>>◌, refuse_if, or_refuse}
-use Rattle.model.specs.Outcome.Outcome.{refuse, pass}
+use Rattle.model.specs.Outcome.{◌>>=◌, ◌>>◌, refuse_if, or_refuse}
 use Rattle.model.specs.Split.{splits, one_name_one_edit}
 use Rattle.model.specs.Beneath.{conflicts}
 use Rattle.model.specs.Judge.{judge}
@@ -33,38 +28,38 @@ use Rattle.model.specs.Due.{due_lines}
 
 -- ---- 3
 
-abbrev pub or_not_registered : Option ℕ → Outcome (Unit {0})
-or_not_registered none = pass tt
-or_not_registered (some n) = refuse (NotRegistered n)
+abbrev pub or_not_registered : Option ℕ → Result (Unit {0}) Refusal
+or_not_registered None = Ok tt
+or_not_registered (Some n) = Err (NotRegistered n)
 
 -- 3: a name number not registered, the first by place in the list
-unfoldable pub registered : Store → List RefEdit → Outcome (Unit {0})
+unfoldable pub registered : Store → List RefEdit → Result (Unit {0}) Refusal
 registered s edits = or_not_registered (first_out (count s) (collect numbers_of edits))
 
 -- ---- R2
 
 -- R2: with a counting row a foreign packed lock is refused with 7; otherwise: is the packed table opened?
-unfoldable pub opening : Store → PackedRefs → List Edit → Outcome Bool
+unfoldable pub opening : Store → PackedRefs → List Edit → Result Bool Refusal
 opening s mode rows =
-    cond (any (counts s) rows && is_lock Foreign s.packed_lock) (refuse PackedTransactionAcquire) (pass (opens s mode rows))
+    cond (any (counts s) rows && is_lock Foreign s.packed_lock) (Err PackedTransactionAcquire) (Ok (opens s mode rows))
 
 -- ---- R3: each row in order
 
 -- 8: the name's lock is foreign; the name is that of the row's topmost ancestor
 abbrev pub lock_test : Store → List Edit → ℕ → Option Refusal
-lock_test s rows i = cond (is_lock Foreign (entry_of s (name_in (row_at rows i))).lock) (some (LockAcquire (topmost rows i))) none
+lock_test s rows i = cond (is_lock Foreign (entry_of s (name_in (row_at rows i))).lock) (Some (LockAcquire (topmost rows i))) None
 
 -- R3: the existing value, and where it is found; without opening, packed values are not seen
 abbrev pub existing_found : Store → Bool → Edit → Found
 existing_found s opened r = found_of opened (entry_of s (name_in r))
 
-abbrev pub existing : Store → Bool → Edit → OptionTarget
+abbrev pub existing : Store → Bool → Edit → Option Target
 existing s opened r = value_in (existing_found s opened r)
 
 -- 25: a name above or beneath is in the way; the name is the row's own
 abbrev pub conflict_test : Store → PackedRefs → Bool → List Edit → ℕ → Option Refusal
 conflict_test s mode opened rows i =
-    cond (conflicts s mode rows i (existing s opened (row_at rows i))) (some (NameConflict (name_in (row_at rows i)))) none
+    cond (conflicts s mode rows i (existing s opened (row_at rows i))) (Some (NameConflict (name_in (row_at rows i)))) None
 
 -- a row's turn is a list of tests, the first refusal deciding: 25 before 8 before 9 to 13
 abbrev pub turn_tests : Store → PackedRefs → Bool → List Edit → ℕ → List (Option Refusal)
@@ -74,18 +69,18 @@ turn_tests s mode opened rows i =
     ∷ judge (name_in (row_at rows i)) (change_in (row_at rows i)) (existing s opened (row_at rows i))
     ∷ []
 
-abbrev pub first_refusal : List (Option Refusal) → Outcome (Unit {0})
-first_refusal [] = pass tt
-first_refusal (none ∷ ts) = first_refusal ts
-first_refusal (some r ∷ ts) = refuse r
+abbrev pub first_refusal : List (Option Refusal) → Result (Unit {0}) Refusal
+first_refusal [] = Ok tt
+first_refusal (None ∷ ts) = first_refusal ts
+first_refusal (Some r ∷ ts) = Err r
 
 -- R3: an existing value then replaces expected as MustExistAndMatch
-abbrev pub observing : Change → OptionTarget → Change
-observing c Absent = c
-observing (Update log expected new) (Present t) = Update log (MustExistAndMatch t) new
-observing (Delete expected log) (Present t) = Delete (MustExistAndMatch t) log
+abbrev pub observing : Change → Option Target → Change
+observing c None = c
+observing (Update log expected new) (Some t) = Update log (MustExistAndMatch t) new
+observing (Delete expected log) (Some t) = Delete (MustExistAndMatch t) log
 
-abbrev pub observed : Edit → OptionTarget → Edit
+abbrev pub observed : Edit → Option Target → Edit
 observed r x = record {
   update = record { change = observing (change_in r) x; name = name_in r; deref = r.update.deref };
   parent_index = r.parent_index;
@@ -100,38 +95,38 @@ abbrev pub handed_to : List ℕ → ObjectNumber → List Edit → List Edit
 handed_to [] o rows = rows
 handed_to (p ∷ ps) o rows = handed_to ps o (set rows p (with_leaf o (row_at rows p)))
 
-abbrev pub handed_on : OptionObject → List ℕ → List Edit → List Edit
-handed_on NoId ps rows = rows
-handed_on (Id o) ps rows = handed_to ps o rows
+abbrev pub handed_on : Option ObjectNumber → List ℕ → List Edit → List Edit
+handed_on None ps rows = rows
+handed_on (Some o) ps rows = handed_to ps o rows
 
 unfoldable pub turned : Store → Bool → List Edit → ℕ → List Edit
 turned s opened rows i =
     let r : Edit = observed (row_at rows i) (existing s opened (row_at rows i)) in
     handed_on (previous_oid (change_in r)) (ancestors rows i) (set rows i r)
 
-unfoldable pub turn : Store → PackedRefs → Bool → List Edit → ℕ → Outcome (List Edit)
-turn s mode opened rows i = first_refusal (turn_tests s mode opened rows i) >> pass (turned s opened rows i)
+unfoldable pub turn : Store → PackedRefs → Bool → List Edit → ℕ → Result (List Edit) Refusal
+turn s mode opened rows i = first_refusal (turn_tests s mode opened rows i) >> Ok (turned s opened rows i)
 
 -- k rows from place i on
-unfoldable pub turns_from : Store → PackedRefs → Bool → ℕ → ℕ → List Edit → Outcome (List Edit)
-turns_from s mode opened zero i rows = pass rows
+unfoldable pub turns_from : Store → PackedRefs → Bool → ℕ → ℕ → List Edit → Result (List Edit) Refusal
+turns_from s mode opened zero i rows = Ok rows
 turns_from s mode opened (suc k) i rows = turn s mode opened rows i >>= λ next. turns_from s mode opened k (i + 1) next
 
 -- ---- the rows of a transaction, or the refusal: 15, 2, 3, 4 or 5, 6, 7, then row by row 25 before 8 before 9 to 13,
 -- then 14
 
-unfoldable pub rows_for : List ℕ → ℕ → Store → Outcome Prepared
+unfoldable pub rows_for : List ℕ → ℕ → Store → Result Prepared Refusal
 rows_for list number s = do
   refuse_if (is_prepared s.prepared) WrongState
   edits ← or_refuse Malformed (edits_of list)
-  mode ← or_refuse Malformed (packed_refs_option (packed_refs_of number))
+  mode ← or_refuse Malformed ((packed_refs_of number))
   registered s edits
   split ← splits s (map row_of edits)
   one_name_one_edit s split
   opened ← opening s mode split
   rows ← turns_from s mode opened (length split) 0 split
   refuse_if (ltb 1024 (length s.lines + length (due_lines s rows))) LogFull
-  pass (record { mode = mode; rows = rows })
+  Ok (record { mode = mode; rows = rows })
 
 -- ---- what preparing leaves
 
@@ -147,5 +142,5 @@ held p s = record {
   packed_lock = cond (opens s p.mode p.rows) Ours s.packed_lock;
   lines = s.lines;
   setting = s.setting;
-  prepared = some p;
+  prepared = Some p;
 }

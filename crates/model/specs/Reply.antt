@@ -1,13 +1,12 @@
 -- Calls and replies, with plain numbers and bytes.
-use Rattle.std.specs.Prelude.{not, List, ℕ, ltb}
+use Rattle.std.specs.Prelude.{not, List, ℕ, ltb, Result, Ok, Err}
 use Rattle.target.specs.declared.Found.{Found}
 use Rattle.transaction.specs.declared.Edit.{Edit}
 use Rattle.model.specs.declared.Line.{Line}
 use Rattle.model.specs.declared.Refusal.{Refusal}
 use Rattle.model.specs.declared.Refusal.TheVariants.{NotRegistered, WrongState}
 use Rattle.model.specs.Store.{Store, count, is_prepared}
-use Rattle.model.specs.Outcome.{Outcome, refuse_if}
-use Rattle.model.specs.Outcome.Outcome.{refuse, pass}
+use Rattle.model.specs.Outcome.{refuse_if}
 use Rattle.model.specs.Commit.{Stop}
 
 -- every number is a plain number, every name, list and text its bytes. Of the buffer that write_packed fills, how long it is
@@ -47,17 +46,17 @@ pub data Reply : Type 0 where
 
 -- the first refusal is the reply
 infixl 20 ◌>>=◌ ◌>>◌
-abbrev pub ◌>>=◌ : {A : Type 0} → Outcome A → (A → Reply) → Reply
-refuse r >>= f = refused r
-pass a >>= f = f a
+abbrev pub ◌>>=◌ : {A : Type 0} → Result A Refusal → (A → Reply) → Reply
+Err r >>= f = refused r
+Ok a >>= f = f a
 
-abbrev pub ◌>>◌ : {A : Type 0} → Outcome A → Reply → Reply
+abbrev pub ◌>>◌ : {A : Type 0} → Result A Refusal → Reply → Reply
 m >> r = m >>= λ _. r
 
 -- 3: a name number is registered
-abbrev pub known : ℕ → Store → Outcome (Unit {0})
+abbrev pub known : ℕ → Store → Result (Unit {0}) Refusal
 known n s = refuse_if (not (ltb n (count s))) (NotRegistered n)
 
 -- 15: nothing is prepared
-abbrev pub idle : Store → Outcome (Unit {0})
+abbrev pub idle : Store → Result (Unit {0}) Refusal
 idle s = refuse_if (is_prepared s.prepared) WrongState

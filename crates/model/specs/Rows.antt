@@ -1,11 +1,9 @@
 -- Rows: what one says, the climb to its ancestors, and what the rules R2 and R4 ask of it.
-use Rattle.std.specs.Prelude.{Bool, ◌&&◌, ◌||◌, not, List, [], ◌∷◌, ℕ, zero, suc, get_or, eqb, leb}
+use Rattle.target.specs.declared.Target.{Target}
+use Rattle.std.specs.Prelude.{Bool, ◌&&◌, ◌||◌, not, List, [], ◌∷◌, ℕ, zero, suc, get_or, eqb, leb, Option, Some, None}
 use Rattle.target.specs.declared.NameNumber.{NameNumber}
-use Rattle.target.specs.declared.OptionTarget.{OptionTarget}
 use Rattle.target.specs.Target.{same_option, is_object, is_symbolic}
 use Rattle.transaction.specs.declared.Change.{Change}
-use Rattle.transaction.specs.declared.ParentIndex.{ParentIndex}
-use Rattle.transaction.specs.declared.ParentIndex.TheVariants.{NoParent, Parent}
 use Rattle.transaction.specs.declared.PackedRefs.{PackedRefs}
 use Rattle.transaction.specs.declared.Edit.{Edit}
 use Rattle.transaction.specs.Fields.{packed_refs_number}
@@ -27,10 +25,10 @@ row_at rows i = get_or rows i no_row
 
 -- ---- the climb from row to parent: it ends, since each parent's place is smaller
 
-abbrev pub climb : ℕ → List Edit → ParentIndex → List ℕ
+abbrev pub climb : ℕ → List Edit → Option ℕ → List ℕ
 climb zero rows p = []
-climb (suc k) rows NoParent = []
-climb (suc k) rows (Parent j) = j ∷ climb k rows (row_at rows j).parent_index
+climb (suc k) rows None = []
+climb (suc k) rows (Some j) = j ∷ climb k rows (row_at rows j).parent_index
 
 -- the places of a row's ancestors, the nearest first
 unfoldable pub ancestors : List Edit → ℕ → List ℕ
@@ -68,7 +66,7 @@ direct mode name c = eqb (packed_refs_number mode) 3 && is_object (new_value c) 
 
 -- R4: an update row keeps its lock if direct, if the new target is symbolic, or if new differs from existing (absent
 -- differs); a delete keeps its lock
-abbrev pub keeps : PackedRefs → List ℕ → Change → OptionTarget → Bool
+abbrev pub keeps : PackedRefs → List ℕ → Change → Option Target → Bool
 keeps mode name c existing =
     is_delete c || direct mode name c || is_symbolic (new_value c) || not (same_option (new_value c) existing)
 

@@ -1,6 +1,6 @@
 -- The store: what one region holds. Nothing here knows of bytes but a name's own.
-use Rattle.std.specs.Prelude.{Bool, true, false, ◌&&◌, List, [], ℕ, ◌^◌, length, get_or, set, eqb, ltb}
-use Rattle.std.proofs.Math.Option.{Option, none, some}
+use Rattle.target.specs.declared.ObjectNumber.{ObjectNumber}
+use Rattle.std.specs.Prelude.{Bool, true, false, ◌&&◌, List, [], ℕ, zero, suc, ◌^◌, length, get_or, set, eqb, ltb, Option, Some, None}
 use Rattle.target.specs.declared.NameNumber.{NameNumber}
 use Rattle.target.specs.declared.Target.TheVariants.{Object}
 use Rattle.transaction.specs.declared.PackedRefs.{PackedRefs}
@@ -11,8 +11,6 @@ use Rattle.transaction.specs.declared.Edit.{Edit}
 use Rattle.transaction.specs.Change.{default_log, row_of}
 use Rattle.model.specs.declared.Loose.{Loose}
 use Rattle.model.specs.declared.Loose.TheVariants as loose
-use Rattle.model.specs.declared.Packed.{Packed}
-use Rattle.model.specs.declared.Packed.TheVariants as packed
 use Rattle.model.specs.declared.Lock.{Lock}
 use Rattle.model.specs.declared.Lock.TheVariants.{Free, Foreign, Ours}
 use Rattle.model.specs.declared.Line.{Line}
@@ -23,7 +21,7 @@ use Rattle.model.specs.Basic.{select}
 pub record Entry : Type 0 where
   pub name : List ℕ
   pub loose : Loose
-  pub packed : Packed
+  pub packed : Option ObjectNumber
   pub lock : Lock
 
 -- a prepared transaction: the mode and the rows
@@ -45,13 +43,13 @@ is_id o = ltb 0 o && ltb o (2 ^ 64)
 
 -- the store that start leaves
 abbrev pub empty : WriteReflog → Store
-empty setting = record { entries = []; packed_lock = Free; lines = []; setting = setting; prepared = none }
+empty setting = record { entries = []; packed_lock = Free; lines = []; setting = setting; prepared = None }
 
 -- ---- looking into it
 
 -- what stands past a list's end, where nothing reads
 abbrev pub no_entry : Entry
-no_entry = record { name = []; loose = loose.None; packed = packed.None; lock = Free }
+no_entry = record { name = []; loose = loose.None; packed = None; lock = Free }
 
 abbrev pub no_line : Line
 no_line = record { name = record { 0 = 0 }; previous = record { 0 = 0 }; new = record { 0 = 0 }; committer = 0; message = 0 }
@@ -81,22 +79,28 @@ lines_of s n = select (is_of n) s.lines
 
 -- the rows and the mode that are prepared; with nothing prepared there is no row
 abbrev pub rows_in : Option Prepared → List Edit
-rows_in none = []
-rows_in (some p) = p.rows
+rows_in None = []
+rows_in (Some p) = p.rows
 
 abbrev pub mode_in : Option Prepared → PackedRefs
-mode_in none = DeletionsOnly
-mode_in (some p) = p.mode
+mode_in None = DeletionsOnly
+mode_in (Some p) = p.mode
 
 abbrev pub is_prepared : Option Prepared → Bool
-is_prepared none = false
-is_prepared (some p) = true
+is_prepared None = false
+is_prepared (Some p) = true
 
 -- a lock's state as a number: 0 free, 1 foreign, 2 ours
 abbrev pub lock_byte : Lock → ℕ
 lock_byte Free = 0
 lock_byte Foreign = 1
 lock_byte Ours = 2
+
+abbrev pub lock_from : ℕ → Option Lock
+lock_from zero = Some Free
+lock_from (suc zero) = Some Foreign
+lock_from (suc (suc zero)) = Some Ours
+lock_from (suc (suc (suc n))) = None
 
 abbrev pub is_lock : Lock → Lock → Bool
 is_lock a b = eqb (lock_byte a) (lock_byte b)
@@ -106,16 +110,16 @@ is_none loose.None = true
 is_none (loose.Target t) = false
 is_none loose.Broken = false
 
-abbrev pub is_packed : Packed → Bool
-is_packed packed.None = false
-is_packed (packed.Object o) = true
+abbrev pub is_packed : Option ObjectNumber → Bool
+is_packed None = false
+is_packed (Some o) = true
 
 -- ---- changing it
 
 abbrev pub put_loose : Loose → Entry → Entry
 put_loose v e = record { name = e.name; loose = v; packed = e.packed; lock = e.lock }
 
-abbrev pub put_packed : Packed → Entry → Entry
+abbrev pub put_packed : Option ObjectNumber → Entry → Entry
 put_packed v e = record { name = e.name; loose = e.loose; packed = v; lock = e.lock }
 
 abbrev pub put_lock : Lock → Entry → Entry
@@ -138,8 +142,8 @@ with_prepared s p = record { entries = s.entries; packed_lock = s.packed_lock; l
 
 -- other rows under the mode that is there; with nothing prepared there is no place for one
 abbrev pub rows_as : List Edit → Option Prepared → Option Prepared
-rows_as rows none = none
-rows_as rows (some p) = some (record { mode = p.mode; rows = rows })
+rows_as rows None = None
+rows_as rows (Some p) = Some (record { mode = p.mode; rows = rows })
 
 abbrev pub with_rows : Store → List Edit → Store
 with_rows s rows = with_prepared s (rows_as rows s.prepared)

@@ -1,16 +1,13 @@
 -- The ordered writes of commit, W1 to W4, as one list, and what a write does to the store.
-use Rattle.std.specs.Prelude.{Bool, ◌&&◌, ◌||◌, not, cond, List, [], ◌∷◌, ◌++◌, map}
+use Rattle.target.specs.declared.ObjectNumber.{ObjectNumber}
+use Rattle.std.specs.Prelude.{Bool, ◌&&◌, ◌||◌, not, cond, List, [], ◌∷◌, ◌++◌, map, Option, Some, None}
 use Rattle.target.specs.declared.NameNumber.{NameNumber}
 use Rattle.target.specs.declared.Target.{Target}
 use Rattle.target.specs.declared.Target.TheVariants.{Object, Symbolic}
-use Rattle.target.specs.declared.OptionTarget.{OptionTarget}
-use Rattle.target.specs.declared.OptionTarget.TheVariants.{Absent, Present}
 use Rattle.transaction.specs.declared.PackedRefs.{PackedRefs}
 use Rattle.transaction.specs.declared.Edit.{Edit}
 use Rattle.transaction.specs.Change.{new_value, is_log_only, is_delete}
 use Rattle.model.specs.declared.Loose.TheVariants as loose
-use Rattle.model.specs.declared.Packed.{Packed}
-use Rattle.model.specs.declared.Packed.TheVariants as packed
 use Rattle.model.specs.declared.Line.{Line}
 use Rattle.model.specs.Basic.{is_empty, collect, select, when}
 use Rattle.model.specs.Store.{Store, Entry, entry_of, is_of, is_none, is_packed, rows_in, mode_in, put_loose, put_packed, change_at, change_entry, with_entries, with_lines}
@@ -20,7 +17,7 @@ use Rattle.model.specs.Due.{Stamp, has_lines, due_line}
 -- a name's packed value set, or removed
 pub record PackedEdit : Type 0 where
   pub name : NameNumber
-  pub value : Packed
+  pub value : Option ObjectNumber
 
 pub data Write : Type 0 where
   append_line : Line → Write
@@ -33,9 +30,9 @@ pub data Write : Type 0 where
 
 -- W1, update rows in order: the log line if due, then the loose value if the lock is kept, the row is not log-only and not
 -- direct
-abbrev pub loose_write : NameNumber → OptionTarget → List Write
-loose_write n Absent = []
-loose_write n (Present t) = write_loose n t ∷ []
+abbrev pub loose_write : NameNumber → Option Target → List Write
+loose_write n None = []
+loose_write n (Some t) = write_loose n t ∷ []
 
 abbrev pub writes_loose : Store → PackedRefs → Edit → Bool
 writes_loose s mode r = keeps_lock s mode r && not (is_log_only (change_in r)) && not (is_direct s mode r)
@@ -49,16 +46,16 @@ unfoldable pub w2 : Store → Edit → List Write
 w2 s r = when (is_delete (change_in r) && has_lines s (name_in r)) (remove_log (name_in r))
 
 -- W3: objects of counting updates (modes 2, 3) set, counting deletions with a packed value removed
-abbrev pub packed_set : NameNumber → OptionTarget → List PackedEdit
-packed_set n Absent = []
-packed_set n (Present (Object o)) = record { name = n; value = packed.Object o } ∷ []
-packed_set n (Present (Symbolic m)) = []
+abbrev pub packed_set : NameNumber → Option Target → List PackedEdit
+packed_set n None = []
+packed_set n (Some (Object o)) = record { name = n; value = Some o } ∷ []
+packed_set n (Some (Symbolic m)) = []
 
 unfoldable pub packed_edit : Store → PackedRefs → Edit → List PackedEdit
 packed_edit s mode r =
     cond (counts s r)
     (cond (packs_updates mode) (packed_set (name_in r) (new_value (change_in r))) []
-    ++ when (is_delete (change_in r) && is_packed (entry_of s (name_in r)).packed) (record { name = name_in r; value = packed.None }))
+    ++ when (is_delete (change_in r) && is_packed (entry_of s (name_in r)).packed) (record { name = name_in r; value = None }))
     []
 
 abbrev pub packed_edits : Store → PackedRefs → List Edit → List PackedEdit

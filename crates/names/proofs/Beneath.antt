@@ -5,9 +5,8 @@ use mathlib.Core.List.{List, [], ◌∷◌, ◌++◌}
 use Prim.Native.Nat.{ℕ, ◌<◌, ◌≤◌}
 use native.Mathlib.Omega.{arith}
 use lib.ListN.{length, get_or, take}
-use lib.Seq.{length-take-le}
-use lib.Dec.{eqb}
-use borrow.Author.Tests.{eq-eqb, ne_eqb}
+use lib.Dec.{eqb, ltb}
+use borrow.Author.Tests.{eq-eqb, ne_eqb, eqb-true, eqb-false, ltb-true, ltb-false}
 use Rattle.word.specs.Tests.{same_list}
 use Rattle.model.specs.Names.{begins, beneath}
 
@@ -41,10 +40,22 @@ module _ (n a : List ℕ) where
     beneath_not d =
         sym (parts a n 47 h ∙ ap (λ (t : Bool). same_list a (take (length a) n) && t) (ne_eqb 47 (get_or n (length a) 0) (λ e. d (sym e))) ∙ and-false (same_list a (take (length a) n)))
 
-    pub beneath_part : (r : Bool) → get_or n (length a) 0 ≡ 47 → r ≡ same_list a (take (length a) n) → r ≡ beneath n a
+    beneath_part : (r : Bool) → get_or n (length a) 0 ≡ 47 → r ≡ same_list a (take (length a) n) → r ≡ beneath n a
     unfolding beneath
     beneath_part r e q =
         q ∙ sym (parts a n 47 h ∙ ap (λ (t : Bool). same_list a (take (length a) n) && t) (eq-eqb 47 (get_or n (length a) 0) (sym e)) ∙ and-true _)
 
-    pub above_length : length a ≡ length (take (length a) n)
-    above_length = sym (length-take-le (length a) n (omega arith))
+  -- the three tests of the code
+  pub beneath_is : beneath n a ≡ (ltb (length a) (length n) && (eqb (get_or n (length a) 0) 47 && same_list a (take (length a) n)))
+  beneath_is = go (ltb (length a) (length n)) refl
+    where
+      reached : length a < length n → (t : Bool) → eqb (get_or n (length a) 0) 47 ≡ t → beneath n a ≡ (t && same_list a (take (length a) n))
+      reached h true q = sym (beneath_part h (same_list a (take (length a) n)) (eqb-true (get_or n (length a) 0) 47 q) refl)
+      reached h false q = sym (beneath_not h (eqb-false (get_or n (length a) 0) 47 q))
+
+      go :
+          (t : Bool)
+          → ltb (length a) (length n) ≡ t
+          → beneath n a ≡ (t && (eqb (get_or n (length a) 0) 47 && same_list a (take (length a) n)))
+      go true q = reached (ltb-true (length a) (length n) q) (eqb (get_or n (length a) 0) 47) refl
+      go false q = sym (beneath_short (ltb-false (length a) (length n) q))

@@ -1,7 +1,4 @@
 pub mod Bytes
-pub mod Classes
 pub mod Pieces
-pub mod Components
-pub mod Syntax
-pub mod Prefixes
+pub mod Words
 pub mod Beneath

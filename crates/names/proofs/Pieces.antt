@@ -1,32 +1,18 @@
--- Pieces, what stands between bytes of one value: the first one ends at the first such byte, and the others stand after that. Turns and ends
--- of the loop that looks for it. Assumes nothing.
+-- Pieces, what stands between bytes of one value: the first one ends at the first such byte, and the others stand after that. Assumes nothing.
 use mathlib.Core.Path.{◌≡◌, refl, sym, ap, subst, ◌∙◌}
 use mathlib.Core.Bool.{Bool, true, false, cond}
 use mathlib.Core.List.{List, [], ◌∷◌}
 use Prim.Native.Nat.{ℕ, zero, suc, ◌+◌, ◌-◌, ◌<◌, ◌≤◌}
 use native.Mathlib.Numerals.{add-one}
 use native.Mathlib.Omega.{arith}
-use lib.ListN.{length, get_or, take, drop, length-drop, drop_of_length-le}
+use lib.ListN.{length, take, drop, length-drop}
 use lib.Seq.{drop-cons, length-take-le}
 use lib.Dec.{eqb}
-use borrow.Author.Tests.{eq-eqb, ne_eqb}
 use Rattle.model.specs.Names.{grow, pieces}
 use Rattle.names.specs.Parts.{up_to}
 use Rattle.names.proofs.Bytes.{to_end}
 
 -- ---- the first byte c
-
-module _ (c : ℕ) (l : List ℕ) (i : ℕ) (h : i + up_to c (drop i l) ≡ up_to c l) where
-  pub byte_here : i < length l → get_or l i 0 ≡ c → i ≡ up_to c l
-  byte_here b e = let k : i + 0 ≡ up_to c l = rw (drop-cons l i 0 b, eq-eqb _ _ e) at h in omega arith
-
-  pub byte_later : i < length l → (get_or l i 0 ≡ c → ⊥) → i + 1 + up_to c (drop (i + 1) l) ≡ up_to c l
-  byte_later b d =
-      let k : i + suc (up_to c (drop (suc i) l)) ≡ up_to c l = rw (drop-cons l i 0 b, ne_eqb _ _ d) at h in
-      rw add-one (omega arith)
-
-  pub byte_none : length l ≤ i → i ≡ up_to c l
-  byte_none b = let k : i + 0 ≡ up_to c l = rw (drop_of_length-le l b) at h in omega arith
 
 pub byte_within : (c : ℕ) (l : List ℕ) → up_to c l ≤ length l
 byte_within c [] = omega arith
@@ -65,9 +51,6 @@ module _ (c : ℕ) (l : List ℕ) (k : ℕ) (e : k ≡ up_to c l) (d : k ≡ len
 
   pub parts_less : length (take (length l - (k + 1)) (drop (k + 1) l)) < length l
   parts_less = rw to_end (omega (arith, length-drop (k + 1) l, parts_left))
-
-  pub parts_short : (m : ℕ) → length l ≤ m → length (take (length l - (k + 1)) (drop (k + 1) l)) ≤ m
-  parts_short m b = omega (arith, parts_less)
 
   -- and what stands behind the byte are the other pieces
   pub parts_then : pieces c l ≡ take k l ∷ pieces c (drop (k + 1) l)

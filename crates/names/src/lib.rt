@@ -11,175 +11,115 @@ ghost use Rattle.std.specs.Prelude.{◌≡◌};
 ghost use Rattle.model.specs.Basic.{all};
 ghost use Rattle.model.specs.Names.{is_upper, is_special, is_component_byte, is_component};
 ghost use Rattle.model.specs.Names.{components, is_ref, is_name, packable, logs};
-ghost use Rattle.names.specs.Parts.{is_byte_of};
 
 // A byte of a special name after its first: A to Z and `_`.
 fn is_upper(byte: u8) -> bool
     ensures { result ≡ is_upper byte }
 {
-    match byte {
-        b'A'..=b'Z' | b'_' => true,
-        _ => false,
-    }
+    matches!(byte, b'A'..=b'Z' | b'_')
 }
 
 // A byte of a component: letters, digits, `-`, `_`, `.`.
 fn is_component_byte(byte: u8) -> bool
     ensures { result ≡ is_component_byte byte }
 {
-    match byte {
-        b'A'..=b'Z' | b'a'..=b'z' | b'0'..=b'9' | b'-' | b'_' | b'.' => true,
-        _ => false,
-    }
+    matches!(byte, b'A'..=b'Z' | b'a'..=b'z' | b'0'..=b'9' | b'-' | b'_' | b'.')
 }
 
-// A byte of a component, or of a special name after its first.
-fn is_byte_of(component: bool, byte: u8) -> bool
-    ensures { result ≡ is_byte_of component byte }
+// Each of the bytes is one of a component.
+fn are_component_bytes(bytes: &[u8]) -> bool
+    ensures { result ≡ all is_component_byte bytes.now }
 {
-    if component {
-        return is_component_byte(byte);
-    }
-    is_upper(byte)
+    bytes.iter().all(|&byte| is_component_byte(byte))
 }
 
-// So is each of the bytes.
-fn all_bytes(component: bool, bytes: &[u8]) -> bool
-    ensures { result ≡ all (is_byte_of component) bytes.now }
+// Each of the bytes is one of a special name.
+fn are_upper(bytes: &[u8]) -> bool
+    ensures { result ≡ all is_upper bytes.now }
 {
-    let mut i: usize = 0;
-    while i < bytes.len() {
-        let ok = is_byte_of(component, bytes[i]);
-        if ok {
-            i += 1;
-        } else {
-            return false;
-        }
-    }
-    true
+    bytes.iter().all(|&byte| is_upper(byte))
 }
 
 // A special name: A to Z and `_`, first a letter.
+#[tactic(auto, unfolding(model::specs::Names::is_special))]
 fn is_special(name: &[u8]) -> bool
     ensures { result ≡ is_special name.now }
 {
-    if name.len() == 0 {
-        return false;
-    }
-    match name[0] {
-        b'A'..=b'Z' => all_bytes(false, &name[1..]),
+    match name {
+        [b'A'..=b'Z', rest @ ..] => are_upper(rest),
         _ => false,
     }
 }
 
 // A component: of its bytes alone, not empty, not begun with `.`, not ended with `.lock`.
+#[tactic(auto, unfolding(model::specs::Names::is_component))]
 fn is_component(part: &[u8]) -> bool
     ensures { result ≡ is_component part.now }
 {
-    if part.len() == 0 {
-        return false;
-    }
-    if !all_bytes(true, part) {
-        return false;
-    }
-    if spelling::begins_with(part, b".") {
-        return false;
-    }
-    !spelling::ends_with(part, b".lock")
+    !part.is_empty()
+        && are_component_bytes(part)
+        && !spelling::begins_with(part, b".")
+        && !spelling::ends_with(part, b".lock")
 }
 
 // What stands between the `/` are components, each of them.
 fn are_components(bytes: &[u8]) -> bool
     ensures { result ≡ all is_component (components bytes.now) }
 {
-    let mut rest = bytes;
-    loop {
-        let n = spelling::up_to(rest, b'/');
-        if !is_component(&rest[..n]) {
-            return false;
-        }
-        if n == rest.len() {
-            return true;
-        }
-        rest = &rest[n + 1..];
-    }
+    bytes.split(|&byte| byte == b'/').all(is_component)
 }
 
 // `refs/` and components joined by single `/`; `..` nowhere; no final `.`.
+#[tactic(auto, unfolding(model::specs::Names::is_ref))]
 fn is_ref(name: &[u8]) -> bool
     ensures { result ≡ is_ref name.now }
 {
-    if !spelling::begins_with(name, b"refs/") {
-        return false;
-    }
-    if !are_components(&name[5..]) {
-        return false;
-    }
-    if spelling::contains(name, b"..") {
-        return false;
-    }
-    !spelling::ends_with(name, b".")
+    spelling::begins_with(name, b"refs/")
+        && are_components(&name[5..])
+        && !spelling::contains(name, b"..")
+        && !spelling::ends_with(name, b".")
 }
 
 // A name has 1 to 64 bytes, and is special or under `refs/`.
+#[tactic(auto, unfolding(model::specs::Names::is_name))]
 pub fn is_name(name: &[u8]) -> bool
     ensures { result ≡ is_name name.now }
 {
-    if name.len() == 0 {
-        return false;
-    }
-    if NameNumber::LONGEST < name.len() {
-        return false;
-    }
-    if is_special(name) {
-        return true;
-    }
-    is_ref(name)
+    !name.is_empty() && name.len() <= NameNumber::LONGEST && (is_special(name) || is_ref(name))
 }
 
 // The packed table may hold the name: under `refs/`, and in none of the three places that are a worktree's own.
+#[tactic(auto, unfolding(model::specs::Names::packable))]
 pub fn is_packable(name: &[u8]) -> bool
     ensures { result ≡ packable name.now }
 {
-    if !spelling::begins_with(name, b"refs/") {
-        return false;
-    }
-    if spelling::begins_with(name, b"refs/bisect/") {
-        return false;
-    }
-    if spelling::begins_with(name, b"refs/worktree/") {
-        return false;
-    }
-    !spelling::begins_with(name, b"refs/rewritten/")
+    spelling::begins_with(name, b"refs/")
+        && !spelling::begins_with(name, b"refs/bisect/")
+        && !spelling::begins_with(name, b"refs/worktree/")
+        && !spelling::begins_with(name, b"refs/rewritten/")
 }
 
 // Setting 1: `HEAD`, branches, remotes and notes.
+#[tactic(auto, unfolding(model::specs::Names::logs))]
 fn is_logged_normally(name: &[u8]) -> bool
     ensures { result ≡ logs WriteReflog.Normal name.now }
 {
-    if word::same(b"HEAD", name) {
-        return true;
-    }
-    if spelling::begins_with(name, b"refs/heads/") {
-        return true;
-    }
-    if spelling::begins_with(name, b"refs/remotes/") {
-        return true;
-    }
-    spelling::begins_with(name, b"refs/notes/")
+    word::same(b"HEAD", name)
+        || spelling::begins_with(name, b"refs/heads/")
+        || spelling::begins_with(name, b"refs/remotes/")
+        || spelling::begins_with(name, b"refs/notes/")
 }
 
 // Setting 2: `HEAD` and all under `refs/`.
+#[tactic(auto, unfolding(model::specs::Names::logs))]
 fn is_logged_always(name: &[u8]) -> bool
     ensures { result ≡ logs WriteReflog.Always name.now }
 {
-    if word::same(b"HEAD", name) {
-        return true;
-    }
-    spelling::begins_with(name, b"refs/")
+    word::same(b"HEAD", name) || spelling::begins_with(name, b"refs/")
 }
 
 // The log setting by itself has the name logged, whatever lines it has already.
+#[tactic(auto, unfolding(model::specs::Names::logs))]
 pub fn is_logged(setting: WriteReflog, name: &[u8]) -> bool
     ensures { result ≡ logs setting name.now }
 {

@@ -9,87 +9,42 @@ ghost use Rattle.names.specs.Parts.{up_to};
 pub fn begins_with(name: &[u8], prefix: &[u8]) -> bool
     ensures { result ≡ begins prefix.now name.now }
 {
-    let mut i: usize = 0;
-    while i < prefix.len() {
-        if name.len() <= i {
-            return false;
-        }
-        if prefix[i] != name[i] {
-            return false;
-        }
-        i += 1;
-    }
-    true
+    name.starts_with(prefix)
 }
 
 // The name ends with the suffix.
 pub fn ends_with(name: &[u8], suffix: &[u8]) -> bool
     ensures { result ≡ ends suffix.now name.now }
 {
-    if name.len() < suffix.len() {
-        return false;
-    }
-    let start = name.len() - suffix.len();
-    word::same(suffix, &name[start..])
+    name.ends_with(suffix)
 }
 
 // The part stands somewhere in the name.
 pub fn contains(name: &[u8], part: &[u8]) -> bool
     ensures { result ≡ within part.now name.now }
 {
-    let mut i: usize = 0;
-    loop {
-        if begins_with(&name[i..], part) {
-            return true;
-        }
-        if i == name.len() {
-            return false;
-        }
-        i += 1;
-    }
+    part.is_empty() || (0..name.len()).any(|i| begins_with(&name[i..], part))
 }
 
 // How many bytes stand before the first such byte, or in all where there is none.
 pub fn up_to(bytes: &[u8], byte: u8) -> usize
     ensures { result ≡ up_to byte bytes.now }
 {
-    let mut i: usize = 0;
-    while i < bytes.len() {
-        if bytes[i] == byte {
-            return i;
-        }
-        i += 1;
-    }
-    i
+    bytes.iter().position(|&b| b == byte).unwrap_or(bytes.len())
 }
 
 // The name begins with the other and a `/`. Lengths and the `/` are asked first: as a rule they tell, and no byte more is compared.
+#[tactic(auto, using(crate::proofs::Beneath::beneath_is))]
 pub fn is_beneath(name: &[u8], above: &[u8]) -> bool
     ensures { result ≡ beneath name.now above.now }
 {
     let end = above.len();
-    if name.len() <= end {
-        return false;
-    }
-    if name[end] != b'/' {
-        return false;
-    }
-    word::same(above, &name[..end])
+    end < name.len() && name[end] == b'/' && word::same(above, &name[..end])
 }
 
 // Byte order: the first stands before the second.
 pub fn is_before(a: &[u8], b: &[u8]) -> bool
     ensures { result ≡ before a.now b.now }
 {
-    let mut i: usize = 0;
-    while i < b.len() {
-        if a.len() <= i {
-            return true;
-        }
-        if a[i] != b[i] {
-            return a[i] < b[i];
-        }
-        i += 1;
-    }
-    false
+    a < b
 }

@@ -1,47 +1,30 @@
--- What each test of the code says of the definitions, and the starts, turns and ends of its loops. Assumes nothing.
+-- Starts, turns and ends of the loops over names, rows and bytes, and what the passes say of the rule. Assumes nothing.
 use mathlib.Core.Path.{◌≡◌, refl, sym, ap, ◌∙◌}
-use mathlib.Core.Bool.{Bool, true, false, ◌&&◌, not, cond, and-true}
+use mathlib.Core.Bool.{Bool, true, false, ◌&&◌, not, cond, and-true, and-false}
 use mathlib.Core.List.{List}
 use Prim.Native.Nat.{ℕ, ◌+◌, ◌<◌, ◌≤◌}
 use native.Mathlib.Omega.{arith}
 use lib.ListN.{length, get_or, set}
 use lib.Dec.{eqb}
-use borrow.Author.Tests.{not-true, not-false, eqb-true, eq-eqb, ne_eqb}
+use borrow.Author.Tests.{not-true, not-false, eqb-true, eq-eqb}
 use Rattle.word.specs.Flags.{Flags, nowhere}
-use Rattle.word.proofs.Tests.{both_true, true_both, some_true, Found, some_found, Unmet, unmet_start, unmet_next, unmet_here, unmet_end}
+use Rattle.word.proofs.Tests.{both_true, true_both, some_true, Found, some_found, Unmet, unmet_here, unmet_end}
 use Rattle.target.specs.declared.NameNumber.{NameNumber}
-use Rattle.target.proofs.Places.{at_place}
-pub use Rattle.target.proofs.Places.{placed}
 use Rattle.transaction.specs.declared.PackedRefs.{PackedRefs}
-use Rattle.transaction.specs.declared.Edit.{Edit}
 use Rattle.model.specs.Basic.{below, some_below}
 use Rattle.model.specs.Store.{Store, count, entry_at, entry_of, rows_in, mode_in}
 use Rattle.model.specs.Rows.{name_in, row_at}
-use Rattle.model.specs.Beneath.{is_loose, lies, will_write}
+use Rattle.model.specs.Beneath.{is_loose}
 use Rattle.model.specs.Fine.{alone_loose, clear_row, fine_nests}
 use Rattle.model.proofs.Beneath.{loose_in_lem}
 use Rattle.region.specs.Region.{view, Laid}
 use Rattle.region.proofs.Read.{name_short}
-use Rattle.rows.proofs.Gather.{flag_passed, flag_up}
 use Rattle.nests.specs.Under.{is_up, some_has, chosen, chosen_for, size_for, slashed, slash_at, under_one, under, flagged_under, none_under}
 use Rattle.nests.proofs.Raising.{Raising, raising_start, raising_more, raising_end}
 use Rattle.nests.proofs.Sizes.{unslashed}
 use Rattle.nests.proofs.Rows.{alone_flags}
 
-pub inside : (i m n : ℕ) → i < m → m ≡ n → i < n
-inside i m n l e = rw (← e) l
-
 -- ---- names with a loose value
-
-module _ (s : Store) (n : ℕ) (k : NameNumber) (ek : k ≡ record { 0 = n }) (b : Bool) (eb : b ≡ is_loose s k.0) where
-  loose_said : is_loose s n ≡ b
-  loose_said = ap (is_loose s) (sym (at_place k n ek)) ∙ sym eb
-
-  pub loose_passed : (flags : List Bool) → not b ≡ true → flags ≡ cond (is_loose s n) (set flags n true) flags
-  loose_passed flags t = rw (loose_said ∙ not-true b t)
-
-  pub loose_raised : (flags flags' : List Bool) → not b ≡ false → flags' ≡ set flags n true → flags' ≡ cond (is_loose s n) (set flags n true) flags
-  loose_raised flags flags' t h = rw (loose_said ∙ not-false b t) h
 
 abbrev pub itself : ℕ → ℕ
 itself n = n
@@ -74,24 +57,6 @@ module _ (s : Store) (c : ℕ) where
 
 -- ---- rows
 
-module _ (s : Store) (mode : PackedRefs) (writing : Bool) (row : Edit) where
-  pub chosen_any : not writing ≡ true → true ≡ chosen s mode writing row
-  unfolding chosen
-  chosen_any t = rw (not-true writing t)
-
-  pub chosen_will : not writing ≡ false → (r : Bool) → r ≡ will_write s mode row → r ≡ chosen s mode writing row
-  unfolding chosen
-  chosen_will t r er = rw (not-false writing t) er
-
-module _ (s : Store) (mode : PackedRefs) (writing : Bool) (row : Edit) (i : ℕ) (b : Bool) (er : row ≡ row_at (rows_in s.prepared) i) (eb : b ≡ chosen s mode writing row) where
-  pub row_passed : (flags : List Bool) → not b ≡ true
-      → flags ≡ cond (chosen s mode writing (row_at (rows_in s.prepared) i)) (set flags (name_in (row_at (rows_in s.prepared) i)).0 true) flags
-  row_passed flags t = flag_passed (chosen s mode writing) (rows_in s.prepared) row i b er eb flags t
-
-  pub row_raised : (flags flags' : List Bool) (k : ℕ) → not b ≡ false → k ≡ row.update.name.0 → flags' ≡ set flags k true
-      → flags' ≡ cond (chosen s mode writing (row_at (rows_in s.prepared) i)) (set flags (name_in (row_at (rows_in s.prepared) i)).0 true) flags
-  row_raised flags flags' k t ek h = flag_up (chosen s mode writing) (rows_in s.prepared) row i b er eb flags flags' k t ek h
-
 abbrev pub named : Store → ℕ → ℕ
 named s i = (name_in (row_at (rows_in s.prepared) i)).0
 
@@ -122,15 +87,6 @@ module _ (s : Store) (mode : PackedRefs) (writing : Bool) (c : ℕ) where
 abbrev pub size_at : Store → ℕ → ℕ
 size_at s m = length (entry_at s m).name
 
-module _ (s : Store) (upper : List Bool) (m : ℕ) (b : Bool) (eb : b ≡ get_or upper m false) where
-  pub size_passed : (sizes : List Bool) → not b ≡ true → sizes ≡ cond (is_up upper m) (set sizes (length (entry_at s m).name) true) sizes
-  size_passed sizes t = rw (sym eb ∙ not-true b t)
-
-  pub size_raised : (sizes sizes' : List Bool) (k : NameNumber) (name : List ℕ) → not b ≡ false → k ≡ record { 0 = m } → name ≡ (entry_of s k).name
-      → sizes' ≡ set sizes (length name) true → sizes' ≡ cond (is_up upper m) (set sizes (length (entry_at s m).name) true) sizes
-  size_raised sizes sizes' k name t ek en h =
-      rw (sym eb ∙ not-false b t) (h ∙ ap (λ (x : List ℕ). set sizes (length x) true) (en ∙ ap (λ (j : NameNumber). (entry_of s j).name) ek))
-
 module _ (s : Store) (upper : List Bool) (c : ℕ) where
   pub sizes_start : (sizes : List Bool) → Flags nowhere sizes → Raising (size_at s) (is_up upper) c 0 sizes
   sizes_start sizes f = raising_start (size_at s) (is_up upper) c sizes f
@@ -147,23 +103,7 @@ module _ (s : Store) (upper : List Bool) (c : ℕ) where
 
 -- ---- slashes
 
-module _ (name : List ℕ) (sizes : List Bool) (i : ℕ) where
-  pub slash_not : (get_or name i 0 ≡ 47 → ⊥) → false ≡ slashed name sizes i
-  unfolding slashed
-  slash_not d = rw (ne_eqb (get_or name i 0) 47 d)
-
-  pub slash_flag : get_or name i 0 ≡ 47 → (r : Bool) → r ≡ get_or sizes i false → r ≡ slashed name sizes i
-  unfolding slashed
-  slash_flag e r er = rw (eq-eqb (get_or name i 0) 47 e) er
-
 module _ (name : List ℕ) (sizes : List Bool) where
-  pub slash_start : Unmet (slashed name sizes) (length name) 0
-  slash_start = unmet_start (slashed name sizes) (length name)
-
-  pub slash_more : (i : ℕ) (r : Bool) → Unmet (slashed name sizes) (length name) i → i < length name → r ≡ slashed name sizes i → r ≡ false
-      → Unmet (slashed name sizes) (length name) (i + 1)
-  slash_more i r u l er t = unmet_next (slashed name sizes) (length name) i r u l er t
-
   pub slash_here : (i : ℕ) (r : Bool) → i < length name → r ≡ slashed name sizes i → r ≡ true → true ≡ slash_at name sizes
   unfolding slash_at
   slash_here i r l er t = sym (unmet_here (slashed name sizes) (length name) i r l er t)
@@ -174,24 +114,7 @@ module _ (name : List ℕ) (sizes : List Bool) where
 
 -- ---- names beneath flagged ones
 
-module _ (s : Store) (upper : List Bool) (n m : ℕ) (b : Bool) (eb : b ≡ get_or upper m false) where
-  pub under_not : not b ≡ true → false ≡ under_one s upper n m
-  unfolding under_one
-  under_not t = rw (sym eb ∙ not-true b t)
-
-  pub under_lies : not b ≡ false → (k l : NameNumber) (r : Bool) → k ≡ record { 0 = n } → l ≡ record { 0 = m } → r ≡ lies s k.0 l.0 → r ≡ under_one s upper n m
-  unfolding under_one
-  under_lies t k l r ek el er =
-      rw (sym eb ∙ not-false b t)
-      (er ∙ ap (λ (j : ℕ). lies s j l.0) (at_place k n ek) ∙ ap (lies s n) (at_place l m el))
-
 module _ (s : Store) (upper : List Bool) (n c : ℕ) (ec : c ≡ count s) where
-  pub under_start : Unmet (under_one s upper n) c 0
-  under_start = unmet_start (under_one s upper n) c
-
-  pub under_more : (m : ℕ) (r : Bool) → Unmet (under_one s upper n) c m → m < c → r ≡ under_one s upper n m → r ≡ false → Unmet (under_one s upper n) c (m + 1)
-  under_more m r u l er t = unmet_next (under_one s upper n) c m r u l er t
-
   pub under_here : (m : ℕ) (r : Bool) → m < c → r ≡ under_one s upper n m → r ≡ true → true ≡ under s upper n
   unfolding under
   under_here m r l er t = sym (unmet_here (under_one s upper n) c m r l er t) ∙ ap (λ (k : ℕ). some_below k (under_one s upper n)) ec
@@ -200,35 +123,26 @@ module _ (s : Store) (upper : List Bool) (n c : ℕ) (ec : c ≡ count s) where
   unfolding under
   under_end m u l = unmet_end (under_one s upper n) c m u l ∙ ap (λ (k : ℕ). some_below k (under_one s upper n)) ec
 
-module _ (s : Store) (lower upper : List Bool) (n : ℕ) (b : Bool) (eb : b ≡ get_or lower n false) where
-  pub flagged_not : not b ≡ true → false ≡ flagged_under s lower upper n
-  unfolding flagged_under
-  flagged_not t = rw (sym eb ∙ not-true b t)
+-- a name that is not flagged, or has no slash where a flagged name could end
+pub flagged_not : (s : Store) (lower upper : List Bool) (n : ℕ) (v b : Bool) → v ≡ false → b ≡ get_or lower n false → b ≡ false
+    → v ≡ flagged_under s lower upper n
+unfolding flagged_under
+flagged_not s lower upper n v b z eb t = rw (sym eb ∙ t) z
 
-  pub flagged_under_lem : not b ≡ false → (r : Bool) → r ≡ under s upper n → r ≡ flagged_under s lower upper n
-  unfolding flagged_under
-  flagged_under_lem t r er = rw (sym eb ∙ not-false b t) er
-
-pub flagged_unslashed : (r : List ℕ) (lower upper sizes : List Bool) (n : ℕ) (b : Bool) → b ≡ get_or lower n false → not b ≡ false → Laid r → n < count (view r)
+pub flagged_unslashed : (r : List ℕ) (lower upper sizes : List Bool) (n : ℕ) (v : Bool) → v ≡ false → Laid r → n < count (view r)
     → Flags (size_for (view r) upper) sizes → (k : NameNumber) (name : List ℕ) (a : Bool) → k ≡ record { 0 = n } → name ≡ (entry_of (view r) k).name
-    → a ≡ slash_at name sizes → not a ≡ true → false ≡ flagged_under (view r) lower upper n
-flagged_unslashed r lower upper sizes n b eb t l h f k name a ek en ea u =
-    flagged_under_lem (view r) lower upper n b eb t false (sym (unslashed (view r) upper sizes n (name_short r l n h) f no_slash))
+    → a ≡ slash_at name sizes → v ≡ a → v ≡ flagged_under (view r) lower upper n
+unfolding flagged_under
+flagged_unslashed r lower upper sizes n v z l h f k name a ek en ea va =
+    rw (unslashed (view r) upper sizes n (name_short r l n h) f no_slash) (z ∙ sym (and-false (is_up lower n)))
   where
     no_slash : slash_at (entry_at (view r) n).name sizes ≡ false
-    no_slash = ap (λ (x : List ℕ). slash_at x sizes) (sym (en ∙ ap (λ (j : NameNumber). (entry_of (view r) j).name) ek)) ∙ sym ea ∙ not-true a u
+    no_slash = ap (λ (x : List ℕ). slash_at x sizes) (sym (en ∙ ap (λ (j : NameNumber). (entry_of (view r) j).name) ek)) ∙ sym ea ∙ sym va ∙ z
 
 module _ (s : Store) (lower upper : List Bool) (c : ℕ) (ec : c ≡ count s) where
   none_as : not (some_below c (flagged_under s lower upper)) ≡ none_under s lower upper
   unfolding none_under
   none_as = ap (λ (k : ℕ). not (some_below k (flagged_under s lower upper))) ec
-
-  pub none_start : Unmet (flagged_under s lower upper) c 0
-  none_start = unmet_start (flagged_under s lower upper) c
-
-  pub none_more : (n : ℕ) (r : Bool) → Unmet (flagged_under s lower upper) c n → n < c → r ≡ flagged_under s lower upper n → r ≡ false
-      → Unmet (flagged_under s lower upper) c (n + 1)
-  none_more n r u l er t = unmet_next (flagged_under s lower upper) c n r u l er t
 
   pub none_here : (n : ℕ) (r : Bool) → n < c → r ≡ flagged_under s lower upper n → r ≡ true → false ≡ none_under s lower upper
   none_here n r l er t = ap not (sym (unmet_here (flagged_under s lower upper) c n r l er t)) ∙ none_as
@@ -237,9 +151,6 @@ module _ (s : Store) (lower upper : List Bool) (c : ℕ) (ec : c ≡ count s) wh
   none_end n u l = ap not (unmet_end (flagged_under s lower upper) c n u l) ∙ none_as
 
 -- ---- the rule
-
-pub few_names : (r : List ℕ) → Laid r → count (view r) ≤ 256
-few_names r l = l.names
 
 module _ (s : Store) (loose : List Bool) (f : Flags (is_loose s) loose) (few : count s ≤ 256) (a : Bool) (ea : a ≡ none_under s loose loose) where
   alone_is_a : below (count s) (alone_loose s) ≡ a

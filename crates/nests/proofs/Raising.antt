@@ -1,12 +1,11 @@
 -- Flags of places that pass a test, gathered in one pass, each by its number. Assumes nothing.
-use mathlib.Core.Path.{◌≡◌, refl, sym, ap, ◌∙◌, subst}
+use mathlib.Core.Path.{◌≡◌, sym, ap, ◌∙◌, subst}
 use mathlib.Core.Bool.{Bool, true, false, ◌&&◌, ◌||◌, cond, or_comm, or-false}
 use mathlib.Core.List.{List}
 use Prim.Native.Nat.{ℕ, ◌+◌, ◌<◌, ◌≤◌}
 use native.Mathlib.Omega.{arith}
 use lib.ListN.{length, get_or, set, length-set}
 use lib.Dec.{eqb}
-use Rattle.word.specs.Tests.{some_below}
 use Rattle.word.specs.Flags.{Flags, nowhere}
 use Rattle.word.proofs.Flags.{flag_raised}
 use Rattle.word.proofs.Tests.{false_some, some_more}

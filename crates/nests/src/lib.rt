@@ -24,10 +24,9 @@ fn flag_name(region: &[u8], n: usize, flags: &mut [bool])
     requires n_bound { n < count (view region.now) }
     ensures { flags.new ≡ cond (is_loose (view region.now) n) (set flags.old n true) flags.old }
 {
-    if !beneath::is_loose(region, NameNumber::at(n)) {
-        return;
+    if beneath::is_loose(region, NameNumber::at(n)) {
+        word::raise(flags, n);
     }
-    word::raise(flags, n);
 }
 
 fn flag_loose(region: &[u8], flags: &mut [bool])
@@ -36,22 +35,18 @@ fn flag_loose(region: &[u8], flags: &mut [bool])
     ensures { Flags (is_loose (view region.now)) flags.new }
 {
     let count = region::count_names(region);
-    let mut n: usize = 0;
-    while n < count {
+    for n in 0..count {
         flag_name(region, n, flags);
-        n += 1;
     }
 }
 
 // Every row, or those alone that will write a loose value.
+#[tactic(auto, unfolding(crate::specs::Under::chosen))]
 fn is_chosen(region: &[u8], mode: PackedRefs, writing: bool, row: Edit) -> bool
     requires { Laid region.now }
     ensures { result ≡ chosen (view region.now) mode writing row }
 {
-    if !writing {
-        return true;
-    }
-    beneath::will_write(region, mode, row)
+    !writing || beneath::will_write(region, mode, row)
 }
 
 fn flag_row(region: &[u8], mode: PackedRefs, writing: bool, i: usize, flags: &mut [bool])
@@ -60,12 +55,9 @@ fn flag_row(region: &[u8], mode: PackedRefs, writing: bool, i: usize, flags: &mu
     ensures { flags.new ≡ cond (chosen (view region.now) mode writing (row_at (rows_in (view region.now).prepared) i)) (set flags.old (name_in (row_at (rows_in (view region.now).prepared) i)).0 true) flags.old }
 {
     let row = region::row_at(region, i);
-    if !is_chosen(region, mode, writing, row) {
-        return;
+    if is_chosen(region, mode, writing, row) {
+        word::raise(flags, row.update.name.place());
     }
-    let update = row.update;
-    let name = update.name;
-    word::raise(flags, name.place());
 }
 
 fn flag_rows(region: &[u8], writing: bool, flags: &mut [bool])
@@ -75,10 +67,8 @@ fn flag_rows(region: &[u8], writing: bool, flags: &mut [bool])
 {
     let mode = region::mode(region);
     let rows = region::count_rows(region);
-    let mut i: usize = 0;
-    while i < rows {
+    for i in 0..rows {
         flag_row(region, mode, writing, i, flags);
-        i += 1;
     }
 }
 
@@ -90,11 +80,9 @@ fn flag_size(region: &[u8], upper: &[bool], m: usize, sizes: &mut [bool])
     requires m_bound { m < count (view region.now) }
     ensures { sizes.new ≡ cond (is_up upper.now m) (set sizes.old (length (entry_at (view region.now) m).name) true) sizes.old }
 {
-    if !word::is_raised(upper, m) {
-        return;
+    if word::is_raised(upper, m) {
+        word::raise(sizes, region::name_at(region, NameNumber::at(m)).len());
     }
-    let name = region::name_at(region, NameNumber::at(m));
-    word::raise(sizes, name.len());
 }
 
 fn flag_sizes(region: &[u8], upper: &[bool], sizes: &mut [bool])
@@ -103,83 +91,68 @@ fn flag_sizes(region: &[u8], upper: &[bool], sizes: &mut [bool])
     ensures { Flags (size_for (view region.now) upper.now) sizes.new }
 {
     let count = region::count_names(region);
-    let mut m: usize = 0;
-    while m < count {
+    for m in 0..count {
         flag_size(region, upper, m, sizes);
-        m += 1;
     }
 }
 
+#[tactic(auto, unfolding(crate::specs::Under::slashed))]
 fn is_slash_at(name: &[u8], sizes: &[bool], i: usize) -> bool
     requires { i < length name.now }
     ensures { result ≡ slashed name.now sizes.now i }
 {
-    if name[i] != b'/' {
-        return false;
-    }
-    word::is_raised(sizes, i)
+    name[i] == b'/' && word::is_raised(sizes, i)
 }
 
 // A slash stands in the name where a flagged name could end.
+#[tactic(auto, unfolding(crate::specs::Under::slash_at))]
 fn has_slash_at(name: &[u8], sizes: &[bool]) -> bool
     ensures { result ≡ slash_at name.now sizes.now }
 {
-    let mut i: usize = 0;
-    while i < name.len() {
-        let yes = is_slash_at(name, sizes, i);
-        if yes {
+    for i in 0..name.len() {
+        if is_slash_at(name, sizes, i) {
             return true;
-        } else {
-            i += 1;
         }
     }
     false
 }
 
+#[tactic(auto, unfolding(crate::specs::Under::under_one))]
 fn is_under_one(region: &[u8], upper: &[bool], n: usize, m: usize) -> bool
     requires laid { Laid region.now }
     requires n_bound { (n < count (view region.now)) × (m < count (view region.now)) }
     ensures { result ≡ under_one (view region.now) upper.now n m }
 {
-    if !word::is_raised(upper, m) {
-        return false;
-    }
-    beneath::lies_beneath(region, NameNumber::at(n), NameNumber::at(m))
+    word::is_raised(upper, m) && beneath::lies_beneath(region, NameNumber::at(n), NameNumber::at(m))
 }
 
 // The name lies beneath a flagged one.
+#[tactic(auto, unfolding(crate::specs::Under::under))]
 fn is_under(region: &[u8], upper: &[bool], n: usize) -> bool
     requires laid { Laid region.now }
     requires n_bound { n < count (view region.now) }
     ensures { result ≡ under (view region.now) upper.now n }
 {
     let count = region::count_names(region);
-    let mut m: usize = 0;
-    while m < count {
-        let yes = is_under_one(region, upper, n, m);
-        if yes {
+    for m in 0..count {
+        if is_under_one(region, upper, n, m) {
             return true;
-        } else {
-            m += 1;
         }
     }
     false
 }
 
 // The same of a name that is flagged itself. Its slashes are looked at first: as a rule none stands where a flagged name could end.
+#[tactic(auto, unfolding(crate::specs::Under::flagged_under))]
 fn is_flagged_under(region: &[u8], lower: &[bool], upper: &[bool], sizes: &[bool], n: usize) -> bool
     requires laid { Laid region.now }
     requires n_bound { n < count (view region.now) }
     requires flags { Flags (size_for (view region.now) upper.now) sizes.now }
     ensures { result ≡ flagged_under (view region.now) lower.now upper.now n }
 {
-    if !word::is_raised(lower, n) {
-        return false;
-    }
-    if !has_slash_at(region::name_at(region, NameNumber::at(n)), sizes) {
-        return false;
-    }
-    is_under(region, upper, n)
+    word::is_raised(lower, n)
+        && has_slash_at(region::name_at(region, NameNumber::at(n)), sizes)
+        && is_under(region, upper, n)
 }
 
 fn none_sized(region: &[u8], lower: &[bool], upper: &[bool], sizes: &[bool]) -> bool
@@ -188,13 +161,9 @@ fn none_sized(region: &[u8], lower: &[bool], upper: &[bool], sizes: &[bool]) -> 
     ensures { result ≡ none_under (view region.now) lower.now upper.now }
 {
     let count = region::count_names(region);
-    let mut n: usize = 0;
-    while n < count {
-        let yes = is_flagged_under(region, lower, upper, sizes, n);
-        if yes {
+    for n in 0..count {
+        if is_flagged_under(region, lower, upper, sizes, n) {
             return false;
-        } else {
-            n += 1;
         }
     }
     true

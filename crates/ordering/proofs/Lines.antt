@@ -1,20 +1,16 @@
--- The lines of names in an order that is given by number: the object of a name, how long the lines are, and turns and ends of the
--- loops that measure and write them. Assumes nothing.
+-- The lines of names in an order that is given by number: how long they are, and turns of the loops that measure and write them. Assumes nothing.
 use mathlib.Core.Path.{◌≡◌, refl, sym, ap, ap₂, ◌∙◌}
 use mathlib.Core.Bool.{Bool, true, false}
 use mathlib.Core.List.{List, [], ◌∷◌, ◌++◌, map, append_assoc, append-nil}
 use Prim.Native.Nat.{ℕ, ◌+◌, ◌-◌, ◌*◌, ◌≤◌, ◌<◌}
 use native.Mathlib.Numerals.{add-one}
 use native.Mathlib.Omega.{arith}
-use lib.ListN.{length, get_or, take, drop, take-append-drop, length-drop, get_or-eq_default}
-use lib.Seq.{length-take-le, take-suc, take-take, take_at, drop_at, drop-drop}
+use lib.ListN.{length, get_or, take, drop, take-append-drop, get_or-eq_default}
+use lib.Seq.{take-suc, take-take, take_at, drop_at, drop-drop}
 use lib.Dec.{ltb}
 use borrow.Author.Tests.{ltb-true, ltb-false}
 use Rattle.word.specs.Cut.{put}
 use Rattle.target.specs.declared.NameNumber.{NameNumber}
-use Rattle.target.specs.declared.ObjectNumber.{ObjectNumber}
-use Rattle.model.specs.declared.Packed.{Packed}
-use Rattle.model.specs.declared.Packed.TheVariants as packed
 use Rattle.model.specs.Basic.{collect}
 use Rattle.model.specs.Store.{Store, Entry, no_entry, count, entry_at, entry_of}
 use Rattle.model.specs.PackedText.{Ref, ref_line}
@@ -25,22 +21,9 @@ use Rattle.region.proofs.Read.{name_short}
 use Rattle.ordering.specs.Order.{object_in, ref_at, first_at}
 use Rattle.ordering.proofs.Lists.{map_append, collect_append}
 
--- ---- the object of a name, and how long its bytes are
+-- ---- how long the bytes of a name are
 
-module _ (s : Store) (name : NameNumber) where
-  -- a number that is not registered has none
-  pub object_far : (n m : ℕ) → n ≡ name.0 → m ≡ count s → m ≤ n → 0 ≡ object_in (entry_of s name).packed
-  object_far n m en em l =
-      let b : count s ≤ name.0 = omega arith in
-      ap (λ (e : Entry). object_in e.packed) (sym (get_or-eq_default s.entries no_entry b))
-
-  pub object_none : (p : Packed) → p ≡ (entry_of s name).packed → p ≡ packed.None → 0 ≡ object_in (entry_of s name).packed
-  object_none p e q = ap object_in (sym q ∙ e)
-
-  pub object_there : (p : Packed) (o : ObjectNumber) → p ≡ (entry_of s name).packed → p ≡ packed.Object o → o.0 ≡ object_in (entry_of s name).packed
-  object_there p o e q = ap object_in (sym q ∙ e)
-
-pub bytes_short : (r : List ℕ) (name : NameNumber) (b : List ℕ) → Laid r → b ≡ (entry_of (view r) name).name → length b ≤ 64
+bytes_short : (r : List ℕ) (name : NameNumber) (b : List ℕ) → Laid r → b ≡ (entry_of (view r) name).name → length b ≤ 64
 bytes_short r name b l e = rw e (go (ltb name.0 (count (view r))) refl)
   where
     go : (t : Bool) → ltb name.0 (count (view r)) ≡ t → length (entry_of (view r) name).name ≤ 64
@@ -104,12 +87,6 @@ measure_more r numbers held i total name b l h k m en eb =
     lengths_more (view r) numbers name b i en eb (omega arith) in
     record { inside = omega arith; small = omega arith; sum = omega arith }
 
-pub measure_end : (s : Store) (numbers : List ℕ) (held i total : ℕ) → held ≤ i → Measured s numbers held i total
-    → total ≡ lengths (first_at s held numbers)
-measure_end s numbers held i total h m =
-    let e : i ≡ held = omega arith in
-    m.sum ∙ ap (λ (k : ℕ). lengths (first_at s k numbers)) e
-
 -- ---- lines written: those of the first i, and behind them what was there
 
 pub record Written (s : Store) (numbers : List ℕ) (held : ℕ) (start buffer : List ℕ) (i at : ℕ) : Type 0 where
@@ -134,12 +111,6 @@ module _ (s : Store) (numbers : List ℕ) (held : ℕ) (start buffer : List ℕ)
   write_room l =
       let e : length buffer ≡ length start = w.sized in
       omega (arith, more, first_less s numbers (i + 1) held (omega arith))
-
-  pub write_part : lengths (first_at s held numbers) ≤ length start
-      → length (take (at + (42 + length b) - at) (drop at buffer)) ≡ 42 + length b
-  write_part l =
-      let e : at + (42 + length b) - at ≡ 42 + length b = omega arith in
-      rw e (length-take-le (42 + length b) (drop at buffer) (omega (arith, write_room l, length-drop at buffer)))
 
   module _ (o : ℕ) (eo : o ≡ object_in (entry_of s name).packed) (p : List ℕ) (ep : p ≡ ref_line (record { name = b; object = o })) where
     line_at : p ≡ ref_line (ref_at s (get_or numbers i 0))
@@ -173,11 +144,3 @@ module _ (s : Store) (numbers : List ℕ) (held : ℕ) (start buffer : List ℕ)
               ∙ sym (append_assoc lines p (drop (at + (42 + length b)) start))
               ∙ ap (λ (xs : List ℕ). xs ++ drop (at + (42 + length b)) start) (sym both);
         }
-
-pub write_end : (s : Store) (numbers : List ℕ) (held : ℕ) (start buffer : List ℕ) (i at : ℕ) → held ≤ i → Written s numbers held start buffer i at
-    → buffer ≡ collect ref_line (first_at s held numbers) ++ drop (lengths (first_at s held numbers)) start
-write_end s numbers held start buffer i at h w =
-    let e : i ≡ held = omega arith in
-    w.text
-    ∙ ap (λ (n : ℕ). collect ref_line (first_at s i numbers) ++ drop n start) w.end
-    ∙ ap (λ (k : ℕ). collect ref_line (first_at s k numbers) ++ drop (lengths (first_at s k numbers)) start) e

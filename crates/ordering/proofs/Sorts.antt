@@ -1,4 +1,5 @@
 -- One entry more sorted in: what a name without a packed value leaves, and what a number in its place makes. Assumes nothing.
+use Rattle.std.specs.Prelude.{Option, Some}
 use mathlib.Core.Path.{◌≡◌, sym, ap, ap₂, ◌∙◌}
 use mathlib.Core.Bool.{true}
 use mathlib.Core.List.{List, [], ◌∷◌, ◌++◌, map, append_assoc}
@@ -9,10 +10,6 @@ use lib.ListN.{length, take, drop, set, length-set, length-append, length-drop, 
 use lib.Seq.{length-take-le, drop-cons, take-take, take_at}
 use Rattle.target.specs.declared.NameNumber.{NameNumber}
 use Rattle.target.specs.declared.ObjectNumber.{ObjectNumber}
-use Rattle.model.specs.declared.Packed.{Packed}
-use Rattle.model.specs.declared.Packed.TheVariants as packed
-use Rattle.model.specs.Basic.{all}
-use Rattle.model.specs.Names.{before}
 use Rattle.model.specs.Store.{Store, Entry, no_entry, count, entry_at, entry_of}
 use Rattle.model.specs.PackedText.{Ref, insert, with_packed, sorted}
 use Rattle.model.specs.Texts.{rises}
@@ -29,10 +26,6 @@ use Rattle.ordering.proofs.Opens.{put_at}
 
 pub good_laid : (r : List ℕ) → good r ≡ true → Laid r
 good_laid r g = laid r (good_parts r g).0
-
--- the name of a number below the count is registered
-pub name_below_lem : (n : ℕ) (s : Store) (name : NameNumber) → name ≡ record { 0 = n } → n < count s → name.0 < count s
-name_below_lem n s name e h = rw e h
 
 -- no two of the later entries have one name either
 later_distinct : (n : ℕ) (es : List Entry) → Distinct es → Distinct (drop n es)
@@ -75,20 +68,12 @@ sorted_more : (s : Store) (n : ℕ) → n < count s
 sorted_more s n h = rw add-one (ap sorted (drop-cons s.entries n no_entry h))
 
 module _ (s : Store) (n : ℕ) (h : n < count s) (numbers : List ℕ) (held : ℕ) (o : Ordered s (n + 1) numbers held)
-    (name : NameNumber) (en : name ≡ record { 0 = n }) (p : Packed) (ep : p ≡ (entry_of s name).packed) where
+    (name : NameNumber) (en : name ≡ record { 0 = n }) (p : Option ObjectNumber) (ep : p ≡ (entry_of s name).packed) where
   here : (entry_at s n).packed ≡ p
   here = ap (λ (m : NameNumber). (entry_of s m).packed) (sym en) ∙ sym ep
 
-  -- a name without a packed value leaves all as it is
-  pub order_same : p ≡ packed.None → Ordered s n numbers held
-  order_same q = record {
-    size = o.size;
-    few = let f : held + (n + 1) ≤ 256 = o.few in omega arith;
-    sorts = o.sorts ∙ sym (sorted_more s n h ∙ ap (λ (v : Packed). with_packed (entry_at s n).name v (sorted (drop (n + 1) s.entries))) (here ∙ q));
-  }
-
   -- one with a packed value makes one more, in its place
-  pub order_more : (i : ObjectNumber) → p ≡ packed.Object i → (at : ℕ) (ys : List ℕ) → Places s numbers held name.0 at → Opened numbers at held ys
+  pub order_more : (i : ObjectNumber) → p ≡ Some i → (at : ℕ) (ys : List ℕ) → Places s numbers held name.0 at → Opened numbers at held ys
       → length ys ≡ length numbers → Ordered s n (set ys at n) (held + 1)
   order_more i q at ys e f k =
       let m : n ≡ name.0 = ap (λ (m : NameNumber). m.0) (sym en) in
@@ -106,7 +91,7 @@ module _ (s : Store) (n : ℕ) (h : n < count s) (numbers : List ℕ) (held : �
             ∙ sym (sorted_more s n h);
       }
     where
-      object_in_lem : (b : List ℕ) (v : Packed) (rs : List Ref) (i : ObjectNumber) → v ≡ packed.Object i
+      object_in_lem : (b : List ℕ) (v : Option ObjectNumber) (rs : List Ref) (i : ObjectNumber) → v ≡ Some i
           → insert (record { name = b; object = object_in v }) rs ≡ with_packed b v rs
       object_in_lem b v rs i q = rw q
 
@@ -119,10 +104,3 @@ order_start r k numbers g z e =
     let f : count (view r) ≤ 256 = (good_laid r g).names in
     let d : length (view r).entries ≤ k = omega arith in
     record { size = z; few = omega arith; sorts = sym (ap sorted (drop_of_length-le (view r).entries d)) }
-
--- the one before is next
-pub order_next : (s : Store) (n : ℕ) (numbers : List ℕ) (held : ℕ) → 0 < n → Ordered s n numbers held → Ordered s (n - 1 + 1) numbers held
-order_next s n numbers held h o = let e : n - 1 + 1 ≡ n = omega arith in rw e o
-
-pub order_end : (s : Store) (n : ℕ) (numbers : List ℕ) (held : ℕ) → n ≤ 0 → Ordered s n numbers held → Ordered s 0 numbers held
-order_end s n numbers held h o = let e : 0 ≡ n = omega arith in rw e o

@@ -1,14 +1,13 @@
 -- Names in order by number, and what the sorting leaves.
-use Rattle.std.specs.Prelude.{◌≡◌, List, ◌∷◌, ◌++◌, map, ℕ, ◌+◌, ◌≤◌, length, take, drop}
-use Rattle.model.specs.declared.Packed.{Packed}
-use Rattle.model.specs.declared.Packed.TheVariants as packed
+use Rattle.target.specs.declared.ObjectNumber.{ObjectNumber}
+use Rattle.std.specs.Prelude.{◌≡◌, List, ◌∷◌, ◌++◌, map, ℕ, ◌+◌, ◌≤◌, length, take, drop, Option, Some, None}
 use Rattle.model.specs.Store.{Store, entry_at}
 use Rattle.model.specs.PackedText.{Ref, insert, sorted}
 
 -- the ref of a name
-abbrev pub object_in : Packed → ℕ
-object_in packed.None = 0
-object_in (packed.Object o) = o.0
+abbrev pub object_in : Option ObjectNumber → ℕ
+object_in None = 0
+object_in (Some o) = o.0
 
 abbrev pub ref_at : Store → ℕ → Ref
 ref_at s n = record { name = (entry_at s n).name; object = object_in (entry_at s n).packed }

@@ -8,7 +8,6 @@ ghost use Rattle.model.specs.Store.{count};
 ghost use Rattle.model.specs.Texts.{rises};
 ghost use Rattle.ordering.specs.Order.{first_at, Places, Opened, Ordered};
 
-use model::Packed;
 use target::NameNumber;
 
 pub mod write;
@@ -20,22 +19,11 @@ fn place(region: &[u8], numbers: &[u8], held: usize, name: NameNumber) -> usize
     requires numbers_value { rises (first_at (view region.now) held numbers.now) ≡ true }
     ensures { Places (view region.now) numbers.now held name.0 result }
 {
-    let mut low: usize = 0;
-    let mut high = held;
-    while low < high {
-        let middle = low + (high - low) / 2;
-        let other = NameNumber::at(numbers[middle] as usize);
-        let first = names::spelling::is_before(
-            beneath::bytes_of(region, name),
-            beneath::bytes_of(region, other),
-        );
-        if first {
-            high = middle;
-        } else {
-            low = middle + 1;
-        }
-    }
-    low
+    let bytes = beneath::bytes_of(region, name);
+    numbers[..held].partition_point(|&number| {
+        let other = beneath::bytes_of(region, NameNumber::at(usize::from(number)));
+        !names::spelling::is_before(bytes, other)
+    })
 }
 
 // The numbers from `at` to `held` move up by one.
@@ -44,11 +32,7 @@ fn open(numbers: &mut [u8], at: usize, held: usize)
     requires held_in_bounds { held < length numbers.old }
     ensures { Opened numbers.old at held numbers.new }
 {
-    let mut i = held;
-    while at < i {
-        numbers[i] = numbers[i - 1];
-        i -= 1;
-    }
+    numbers.copy_within(at..held, at + 1);
 }
 
 // With name n too, if it has a packed value: how many there are then.
@@ -59,7 +43,7 @@ fn sort_in(region: &[u8], numbers: &mut [u8], held: usize, n: usize) -> usize
     ensures { Ordered (view region.now) n numbers.new result }
 {
     let name = NameNumber::at(n);
-    let Packed::Object(_) = region::packed_at(region, name) else {
+    let Some(_) = region::packed_at(region, name) else {
         return held;
     };
     let at = place(region, numbers, held, name);
@@ -74,10 +58,8 @@ pub fn sort(region: &[u8], numbers: &mut [u8]) -> usize
     requires numbers_len { length numbers.old ≡ 256 }
     ensures { Ordered (view region.now) 0 numbers.new result }
 {
-    let mut held: usize = 0;
-    let mut n = region::count_names(region);
-    while 0 < n {
-        n -= 1;
+    let mut held = 0;
+    for n in (0..region::count_names(region)).rev() {
         held = sort_in(region, numbers, held, n);
     }
     held

@@ -7,7 +7,6 @@ ghost use Rattle.model.specs.Texts.{lengths};
 ghost use Rattle.region.specs.Region.{view, Laid};
 ghost use Rattle.ordering.specs.Order.{object_in, first_at};
 
-use model::Packed;
 use target::NameNumber;
 use texts::RefLine;
 
@@ -19,10 +18,7 @@ fn object_of(region: &[u8], name: NameNumber) -> u64
     if name.place() >= region::count_names(region) {
         return 0;
     }
-    let Packed::Object(oid) = region::packed_at(region, name) else {
-        return 0;
-    };
-    oid.0
+    region::packed_at(region, name).map_or(0, |oid| oid.0)
 }
 
 // How long the lines of the first `held` are.
@@ -32,13 +28,11 @@ pub fn text_length(region: &[u8], numbers: &[u8], held: usize) -> usize
     requires held_bound { held ≤ 256 }
     ensures { result ≡ lengths (first_at (view region.now) held numbers.now) }
 {
-    let mut total: usize = 0;
-    let mut i: usize = 0;
-    while i < held {
+    let mut total = 0;
+    for i in 0..held {
         let name = NameNumber::at(numbers[i] as usize);
         let bytes = beneath::bytes_of(region, name);
-        total = total + (RefLine::FRAME + bytes.len());
-        i += 1;
+        total += RefLine::FRAME + bytes.len();
     }
     total
 }
@@ -50,15 +44,13 @@ pub fn write_lines(region: &[u8], numbers: &[u8], held: usize, buffer: &mut [u8]
     requires numbers_in_bounds { lengths (first_at (view region.now) held numbers.now) ≤ length buffer.old }
     ensures { buffer.new ≡ collect ref_line (first_at (view region.now) held numbers.now) ++ drop (lengths (first_at (view region.now) held numbers.now)) buffer.old }
 {
-    let mut at: usize = 0;
-    let mut i: usize = 0;
-    while i < held {
+    let mut at = 0;
+    for i in 0..held {
         let name = NameNumber::at(numbers[i] as usize);
         let bytes = beneath::bytes_of(region, name);
         let object = object_of(region, name);
         let end = at + (RefLine::FRAME + bytes.len());
         texts::write_packed_ref(&mut buffer[at..end], bytes, object);
         at = end;
-        i += 1;
     }
 }

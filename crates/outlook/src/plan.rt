@@ -1,170 +1,115 @@
 // The writes that a commit of the prepared transaction would make, in order, for a committer that is there.
-ghost use Rattle.std.specs.Prelude.{◌<◌, length};
+ghost use Rattle.std.specs.Prelude.{◌+◌, ◌<◌, ◌≤◌, length, IfOk};
 ghost use Rattle.model.specs.Fine.{Fine};
-ghost use Rattle.model.specs.Store.{rows_in};
 ghost use Rattle.region.specs.Region.{view, Laid};
 ghost use Rattle.rows.specs.Rows.{Named};
 ghost use Rattle.writes.specs.Next.{rows_of, places};
 ghost use Rattle.writes.specs.Told.{Told};
 
-use listing::{entries, log};
-use model::{Line, Packed};
-use target::{NameNumber, OptionTarget, Target};
-use transaction::PackedRefs;
-use writes::{OptionPackedEdit, OptionWrite};
+use listing::entries::{Called, Pointed};
+use listing::log::Moved;
+use std::{fmt, io};
+use target::NameNumber;
+use writes::NextWrite;
 
-// The number of a write, and what it does. What is given back is how many there are with it.
-fn begin(made: u64, what: &[u8]) -> u64 {
-    let now = std::num::wrapping_add_u64(made, 1);
-    say::place(now);
-    say::text(what);
-    now
+// A write: its rule, and what it does. Of the packed write the names that it sets or removes come in lines of their own.
+#[derive(Clone, Copy)]
+struct Planned<'a> {
+    region: &'a [u8],
+    write: NextWrite,
+    ghost laid: { Laid region.now },
 }
 
-// ---- W1
-
-fn append(region: &[u8], made: u64, l: Line) -> u64
-    requires { Laid region.now }
-{
-    let now = begin(made, b"W1  append to the log of ");
-    entries::called(region, l.name);
-    say::text(b" ");
-    log::moved(l.previous, l.new);
-    log::message(l.message);
-    say::end();
-    now
-}
-
-fn loose(region: &[u8], made: u64, n: NameNumber, t: Target) -> u64
-    requires { Laid region.now }
-{
-    let now = begin(made, b"W1  write loose ");
-    entries::called(region, n);
-    say::text(b", ");
-    let to = OptionTarget::Present(t);
-    entries::target(region, to.byte(), to.number());
-    say::end();
-    now
-}
-
-// ---- W2 and W4
-
-fn removed(region: &[u8], made: u64, what: &[u8], n: NameNumber) -> u64
-    requires { Laid region.now }
-{
-    let now = begin(made, what);
-    entries::called(region, n);
-    say::end();
-    now
-}
-
-// ---- W3
-
-fn becomes(v: Packed) {
-    match v {
-        Packed::None => say::text(b" removed\n"),
-        Packed::Object(oid) => {
-            say::number(b" set to object ", oid.0);
-            say::end();
+impl fmt::Display for Planned<'_> {
+    fn fmt<W: fmt::Write>(&self, f: &mut fmt::Formatter<W>) -> fmt::Result {
+        let region = self.region;
+        match self.write {
+            NextWrite::AppendLine(line) => {
+                let name = line.name;
+                write!(f, "W1  append to the log of {} ", Called { region, name })?;
+                write!(f, "{}, message {}", Moved(line), line.message)
+            }
+            NextWrite::WriteLoose(name, target) => {
+                write!(f, "W1  write loose {}, ", Called { region, name })?;
+                write!(f, "{}", Pointed { region, target })
+            }
+            NextWrite::RemoveLog(name) => {
+                write!(f, "W2  remove the log of {}", Called { region, name })
+            }
+            NextWrite::WritePacked => write!(f, "W3  write the packed table"),
+            NextWrite::RemoveLoose(name) => {
+                write!(f, "W4  remove loose {}", Called { region, name })
+            }
         }
     }
 }
 
-fn packed_edit(region: &[u8], n: NameNumber, edit: OptionPackedEdit)
-    requires { Laid region.now }
-{
-    match edit {
-        OptionPackedEdit::NoPackedEdit => {}
-        OptionPackedEdit::Sets(v) => {
-            say::text(b"          ");
-            entries::called(region, n);
-            becomes(v);
-        }
-    }
-}
-
-fn packed_row(region: &[u8], mode: PackedRefs, i: usize)
-    requires laid { Laid region.now }
-    requires named { Named (view region.now) }
-    requires i_in_bounds { i < length (rows_in (view region.now).prepared) }
-{
-    let name = region::row_name(region, i);
-    let edit = writes::packed_edit(region, mode, region::row_at(region, i));
-    packed_edit(region, name, edit);
-}
-
-fn packed_rows(region: &[u8])
+// The names that the packed write sets or removes.
+fn packed_rows(rt: &impl Print, region: &[u8]) -> io::Result<()>
     requires laid { Laid region.now }
     requires named { Named (view region.now) }
 {
     let mode = region::mode(region);
-    let rows = region::count_rows(region);
-    let mut i: usize = 0;
-    while i < rows {
-        packed_row(region, mode, i);
-        i += 1;
+    for i in 0..region::count_rows(region) {
+        let row = region::row_at(region, i);
+        let name = row.update.name;
+        if let Some(value) = writes::packed_edit(region, mode, row) {
+            print!(rt; "          {} ", Called { region, name })?;
+            match value {
+                None => println!(rt; "removed")?,
+                Some(oid) => println!(rt; "set to object {}", oid.0)?,
+            }
+        }
     }
+    Ok(())
 }
 
-fn packed(region: &[u8], made: u64) -> u64
+// A write, if there is one, behind so many others: how many there are with it.
+fn tell(rt: &impl Print, region: &[u8], made: usize, write: Option<NextWrite>) -> io::Result<usize>
     requires laid { Laid region.now }
     requires named { Named (view region.now) }
+    requires made_bound { made < 1000 }
+    ensures { IfOk result (λ n. n ≤ made + 1) }
 {
-    let now = begin(made, b"W3  write the packed table\n");
-    packed_rows(region);
-    now
-}
-
-// ---- by places
-
-fn write(region: &[u8], made: u64, w: OptionWrite) -> u64
-    requires laid { Laid region.now }
-    requires named { Named (view region.now) }
-{
-    match w {
-        OptionWrite::NoWrite => made,
-        OptionWrite::AppendLine(l) => append(region, made, l),
-        OptionWrite::WriteLoose(n, t) => loose(region, made, n, t),
-        OptionWrite::RemoveLog(n) => removed(region, made, b"W2  remove the log of ", n),
-        OptionWrite::WritePacked => packed(region, made),
-        OptionWrite::RemoveLoose(n) => removed(region, made, b"W4  remove loose ", n),
+    let Some(write) = write else {
+        return Ok(made);
+    };
+    println!(rt; "{:>4}  {}", made + 1, Planned { region, write })?;
+    if matches!(write, NextWrite::WritePacked) {
+        packed_rows(rt, region)?;
     }
+    Ok(made + 1)
 }
 
-// The one or two writes of a place. Any committer does: a line is due whoever commits.
-fn place(region: &[u8], flags: &[bool], k: usize, made: u64) -> u64
-    requires laid { Laid region.now }
-    requires named { Named (view region.now) }
-    requires told { Told flags.now (view region.now) (rows_of (view region.now)) 0 }
-    requires k_bound { k < places (view region.now) }
-{
-    let first = write(region, made, writes::next_first(region, flags, 1, k));
-    write(region, first, writes::next_second(region, k))
-}
-
-fn all_places(region: &[u8], flags: &[bool]) -> u64
+// The one or two writes of each place. Any committer does: a line is due whoever commits.
+fn tell_all(rt: &impl Print, region: &[u8], flags: &[bool]) -> io::Result<usize>
     requires laid { Laid region.now }
     requires named { Named (view region.now) }
     requires told { Told flags.now (view region.now) (rows_of (view region.now)) 0 }
 {
-    let places = region::count_rows(region) * 3 + 1;
-    let mut made: u64 = 0;
-    let mut k: usize = 0;
-    while k < places {
-        made = place(region, flags, k, made);
-        k += 1;
+    let mut made = 0;
+    for k in 0..region::count_rows(region) * 3 + 1 {
+        made = tell(rt, region, made, writes::next_first(region, flags, 1, k))?;
+        made = tell(rt, region, made, writes::next_second(region, k))?;
     }
-    made
+    Ok(made)
 }
 
-pub fn all(region: &[u8])
+// How many writes there are, each told.
+fn plan(rt: &impl Print, region: &[u8]) -> io::Result<usize>
     requires laid { Laid region.now }
     requires fine { Fine (view region.now) }
 {
-    say::text(b"a commit would write\n");
     let mut flags = [false; NameNumber::LIMIT];
     rows::flag_lines(region, &mut flags);
-    let made = all_places(region, &flags);
-    say::number(b"writes: ", made);
-    say::end();
+    tell_all(rt, region, &flags)
+}
+
+pub fn all(rt: &impl Print, region: &[u8]) -> io::Result<()>
+    requires laid { Laid region.now }
+    requires fine { Fine (view region.now) }
+{
+    println!(rt; "a commit would write")?;
+    let made = plan(rt, region)?;
+    println!(rt; "writes: {made}")
 }

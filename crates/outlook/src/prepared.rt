@@ -5,154 +5,131 @@ ghost use Rattle.model.specs.Store.{rows_in};
 ghost use Rattle.region.specs.Region.{view, Laid};
 
 use crate::plan;
-use listing::entries;
-use target::NameNumber;
-
-// A row's numbers, in the order of its slot.
-type Row = [u64; 13];
-
-#[derive(Clone, Copy)]
-struct At {}
-
-impl At {
-    const KIND: usize = 1;
-
-    const LOG: usize = 2;
-
-    const FORCE: usize = 3;
-
-    const MESSAGE: usize = 4;
-
-    const EXPECTED: usize = 5;
-
-    const EXPECTED_KIND: usize = 6;
-
-    const EXPECTED_NUMBER: usize = 7;
-
-    const NEW_KIND: usize = 8;
-
-    const NEW_NUMBER: usize = 9;
-
-    const HAS_PARENT: usize = 10;
-
-    const PARENT: usize = 11;
-
-    const LEAF: usize = 12;
-}
+use listing::entries::{Called, Place, Pointed};
+use std::{fmt, io};
+use transaction::{Change, PackedRefs, PreviousValue, RefEdit, RefLog};
 
 // ---- one row
 
-// Of an update its new target and its message.
-fn update(region: &[u8], row: &Row)
-    requires { Laid region.now }
-{
-    if row[At::KIND] == 1 {
-        say::text(b" to ");
-        entries::target(region, row[At::NEW_KIND], row[At::NEW_NUMBER]);
-        say::number(b", message ", row[At::MESSAGE]);
+// What a row does to its name.
+#[derive(Clone, Copy)]
+struct Changed<'a> {
+    region: &'a [u8],
+    update: RefEdit,
+    ghost laid: { Laid region.now },
+}
+
+impl fmt::Display for Changed<'_> {
+    fn fmt<W: fmt::Write>(&self, f: &mut fmt::Formatter<W>) -> fmt::Result {
+        let region = self.region;
+        let RefEdit { change, name, .. } = self.update;
+        let name = Called { region, name };
+        match change {
+            Change::Update {
+                log,
+                new: target,
+                ..
+            } => {
+                let target = Pointed { region, target };
+                write!(f, "update {name} to {target}, message {}", log.message)?;
+            }
+            Change::Delete { .. } => write!(f, "delete {name}")?,
+        }
+        let log = change.log();
+        if log.mode == RefLog::Only {
+            write!(f, ", log only")?;
+        }
+        if log.force_create_reflog {
+            write!(f, ", forces a log")?;
+        }
+        Ok(())
     }
 }
 
-fn change(region: &[u8], name: NameNumber, row: &Row)
-    requires { Laid region.now }
-{
-    say::choice(b"|update |delete ", row[At::KIND]);
-    entries::called(region, name);
-    update(region, row);
-    say::choice(b"|, log only", row[At::LOG]);
-    say::choice(b"|, forces a log", row[At::FORCE]);
+// What a row expects of the value that it replaces.
+#[derive(Clone, Copy)]
+struct Expected<'a> {
+    region: &'a [u8],
+    expected: PreviousValue,
+    ghost laid: { Laid region.now },
 }
 
-fn expected(region: &[u8], row: &Row)
-    requires { Laid region.now }
-{
-    say::choice(
-        b"\n      expects anything|\n      must exist|\n      must not exist|\n      must exist and match |\n      existing must match ",
-        row[At::EXPECTED],
-    );
-    entries::target(region, row[At::EXPECTED_KIND], row[At::EXPECTED_NUMBER]);
-}
-
-// Where prepare found the value that was there.
-fn found(place: u64) {
-    say::text(b", found ");
-    entries::place(place);
-}
-
-fn origin(row: &Row) {
-    if row[At::HAS_PARENT] == 1 {
-        say::number(b", child of row ", row[At::PARENT]);
-    }
-    if row[At::LEAF] > 0 {
-        say::number(b", leaf-previous object ", row[At::LEAF]);
+impl fmt::Display for Expected<'_> {
+    fn fmt<W: fmt::Write>(&self, f: &mut fmt::Formatter<W>) -> fmt::Result {
+        let region = self.region;
+        match self.expected {
+            PreviousValue::Any => write!(f, "expects anything"),
+            PreviousValue::MustExist => write!(f, "must exist"),
+            PreviousValue::MustNotExist => write!(f, "must not exist"),
+            PreviousValue::MustExistAndMatch(target) => {
+                write!(f, "must exist and match {}", Pointed { region, target })
+            }
+            PreviousValue::ExistingMustMatch(target) => {
+                write!(f, "existing must match {}", Pointed { region, target })
+            }
+        }
     }
 }
 
-fn lock(kept: bool) {
-    if kept {
-        say::text(b", lock kept\n");
-    } else {
-        say::text(b", lock not kept\n");
-    }
-}
-
-fn parts(region: &[u8], name: NameNumber, row: &Row, place: u64, kept: bool)
-    requires { Laid region.now }
-{
-    change(region, name, row);
-    expected(region, row);
-    found(place);
-    origin(row);
-    lock(kept);
-}
-
-fn row(region: &[u8], opened: bool, i: usize)
+// Two lines: what the row does, and what prepare made of it.
+fn row(rt: &impl Print, region: &[u8], opened: bool, i: usize) -> io::Result<()>
     requires laid { Laid region.now }
     requires i_in_bounds { i < length (rows_in (view region.now).prepared) }
 {
-    say::place(i as u64);
     let row = region::row_at(region, i);
+    let update = row.update;
+    println!(rt; "{i:>4}  {}", Changed { region, update })?;
+    let expected = update.change.expected();
+    let found = steps::found_of(region, opened, update.name);
+    print!(rt;
+        "      {}, found {}",
+        Expected { region, expected },
+        Place(found)
+    )?;
+    if let Some(parent) = row.parent_index {
+        print!(rt; ", child of row {parent}")?;
+    }
+    let leaf = row.leaf_referent_previous_oid.0;
+    if leaf > 0 {
+        print!(rt; ", leaf-previous object {leaf}")?;
+    }
     let kept = rows::keeps_lock(region, region::mode(region), row);
-    let numbers = slots::row_numbers(row);
-    let name = region::row_name(region, i);
-    let found = steps::found_of(region, opened, name);
-    parts(region, name, &numbers, found.place(), kept);
+    println!(rt; ", lock {}", if kept { "kept" } else { "not kept" })
 }
 
 // ---- all of them
 
-fn rows_of(region: &[u8])
+fn rows(rt: &impl Print, region: &[u8]) -> io::Result<()>
     requires { Laid region.now }
 {
     let opened = kept::opens_table(region);
-    let rows = region::count_rows(region);
-    let mut i: usize = 0;
-    while i < rows {
-        row(region, opened, i);
-        i += 1;
+    for i in 0..region::count_rows(region) {
+        row(rt, region, opened, i)?;
+    }
+    Ok(())
+}
+
+// What the packing mode does.
+fn packing(mode: PackedRefs) -> &'static str {
+    match mode {
+        PackedRefs::DeletionsOnly => "deletions are packed",
+        PackedRefs::DeletionsAndNonSymbolicUpdates => "updates are packed too",
+        PackedRefs::DeletionsAndNonSymbolicUpdatesRemoveLooseSourceReference => {
+            "updates are packed too, and their loose values go"
+        }
     }
 }
 
-fn mode(number: u64) {
-    say::number(b"mode: ", number);
-    say::choice(
-        b"|, deletions are packed\n|, updates are packed too\n|, updates are packed too, and their loose values go\n",
-        number,
-    );
-}
-
-pub fn all(region: &[u8])
+pub fn all(rt: &impl Print, region: &[u8]) -> io::Result<()>
     requires laid { Laid region.now }
     requires fine { Fine (view region.now) }
 {
     let number = region::mode_number(region);
     if number == 0 {
-        say::text(b"nothing is prepared\n");
-        return;
+        return println!(rt; "nothing is prepared");
     }
-    say::number(b"prepared rows: ", region::count_rows(region) as u64);
-    say::end();
-    mode(number);
-    rows_of(region);
-    plan::all(region);
+    println!(rt; "prepared rows: {}", region::count_rows(region))?;
+    println!(rt; "mode: {number}, {}", packing(region::mode(region)))?;
+    rows(rt, region)?;
+    plan::all(rt, region)
 }

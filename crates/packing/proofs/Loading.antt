@@ -1,8 +1,8 @@
 -- The lines of a text one by one: turns and ends of the two loops over them, and what each line leaves. Assumes nothing.
+use Rattle.std.specs.Prelude.{Option, Some, None, Ok}
 use mathlib.Core.Path.{◌≡◌, refl, sym, ap, ap₂, subst, ◌∙◌}
 use mathlib.Core.Bool.{Bool, true, false, ◌&&◌}
 use mathlib.Core.List.{List, [], ◌∷◌, ◌++◌}
-use mathlib.Core.Option.{Option, none, some}
 use Prim.Native.Nat.{ℕ, zero, suc, ◌+◌, ◌-◌, ◌^◌, ◌≤◌, ◌<◌}
 use native.Mathlib.Omega.{arith}
 use lib.ListN.{length, get_or, take, drop, length-append}
@@ -10,13 +10,9 @@ use lib.Dec.{ltb, leb}
 use borrow.Author.Tests.{le-leb, lt-leb, leb-false, ltb-true}
 use Rattle.word.proofs.Tests.{both_true, every_at}
 use Rattle.target.specs.declared.NameNumber.{NameNumber}
-use Rattle.target.specs.declared.OptionName.{OptionName}
-use Rattle.target.specs.declared.OptionName.TheVariants.{NoName, Name}
-use Rattle.model.specs.declared.Packed.TheVariants as packed
 use Rattle.model.specs.Basic.{all}
 use Rattle.model.specs.Names.{pieces, is_name, packable}
 use Rattle.model.specs.Store.{Store, Entry, count, is_id, put_packed, change_entry, with_entries}
-use Rattle.model.specs.Outcome.Outcome.{pass}
 use Rattle.model.specs.Load.{number_from, new_entry}
 use Rattle.model.specs.PackedText.{Ref, ref_in, ref_loaded_as, ref_loaded, loaded}
 use Rattle.model.proofs.Binds.{none_some, some_is, refuse_pass, pass_then}
@@ -26,8 +22,6 @@ use Rattle.model.proofs.TextTable.{Found, number_found}
 use Rattle.names.specs.Parts.{up_to}
 use Rattle.names.proofs.Bytes.{to_end}
 use Rattle.names.proofs.Pieces.{parts_first, parts_left, parts_less, parts_then}
-use Rattle.texts.specs.declared.OptionNumber.{OptionNumber}
-use Rattle.texts.specs.declared.OptionNumber.TheVariants.{NoNumber, Number}
 use Rattle.texts.specs.Lines.{ref_by}
 use Rattle.texts.specs.Walk.{refs_of, refs_in, first_refs}
 use Rattle.texts.proofs.Walking.{one_piece}
@@ -73,28 +67,28 @@ module _ (rest : List ℕ) (left n : ℕ) (h : left < length (pieces 10 rest)) (
 
 -- ---- a ref line, by its object
 
-module _ (l : List ℕ) (o : OptionNumber) (e : ref_by o l ≡ ref_in l) (x : ℕ) (q : o ≡ Number x) where
-  line_ref : ref_in l ≡ some (record { name = drop 41 l; object = x })
-  line_ref = sym e ∙ ap (λ (o : OptionNumber). ref_by o l) q
+module _ (l : List ℕ) (o : Option ℕ) (e : ref_by o l ≡ ref_in l) (x : ℕ) (q : o ≡ Some x) where
+  line_ref : ref_in l ≡ Some (record { name = drop 41 l; object = x })
+  line_ref = sym e ∙ ap (λ (o : Option ℕ). ref_by o l) q
 
   pub line_reaches : 41 ≤ length l
   line_reaches = ref_reaches l (record { name = drop 41 l; object = x }) line_ref
 
 -- ---- how many names are held with a line
 
-module _ (es : List Entry) (l : List ℕ) (k : ℕ) (o : OptionNumber) (e : ref_by o l ≡ ref_in l) where
-  pub held_none : o ≡ NoNumber → k ≡ held_with es (ref_in l) k
-  held_none q = ap (λ (r : Option Ref). held_with es r k) (sym (ap (λ (o : OptionNumber). ref_by o l) q) ∙ e)
+module _ (es : List Entry) (l : List ℕ) (k : ℕ) (o : Option ℕ) (e : ref_by o l ≡ ref_in l) where
+  pub held_none : o ≡ None → k ≡ held_with es (ref_in l) k
+  held_none q = ap (λ (r : Option Ref). held_with es r k) (sym (ap (λ (o : Option ℕ). ref_by o l) q) ∙ e)
 
-  module _ (x : ℕ) (q : o ≡ Number x) where
-    module _ (p : OptionName) (f : found_option p ≡ number_from 0 (take (length l - 41) (drop 41 l)) es) where
+  module _ (x : ℕ) (q : o ≡ Some x) where
+    module _ (p : Option NameNumber) (f : found_option p ≡ number_from 0 (take (length l - 41) (drop 41 l)) es) where
       found : number_from 0 (drop 41 l) es ≡ found_option p
       found = ap (λ (n : List ℕ). number_from 0 n es) (sym (to_end l 41)) ∙ sym f
 
-      pub held_new : p ≡ NoName → k + 1 ≡ held_with es (ref_in l) k
+      pub held_new : p ≡ None → k + 1 ≡ held_with es (ref_in l) k
       held_new z = rw (line_ref l o e x q, found, z)
 
-      pub held_known : (n : NameNumber) → p ≡ Name n → k ≡ held_with es (ref_in l) k
+      pub held_known : (n : NameNumber) → p ≡ Some n → k ≡ held_with es (ref_in l) k
       held_known n z = rw (line_ref l o e x q, found, z)
 
 -- ---- the loop that counts
@@ -116,8 +110,8 @@ count_start es t lines held k h e f = record {
 
 fits_line : (es : List Entry) (o : Option Ref) (rs : List Ref) (k : ℕ) → k ≤ 256
     → fits es k (refs_of o ++ rs) ≡ (leb (held_with es o k) 256 && fits es (held_with es o k) rs)
-fits_line es none rs k h = rw (le-leb k 256 h)
-fits_line es (some r) rs k h = refl
+fits_line es None rs k h = rw (le-leb k 256 h)
+fits_line es (Some r) rs k h = refl
 
 module _ (es : List Entry) (goal : Bool) (most : ℕ) (rest : List ℕ) (left held : ℕ) (c : Counted es goal most rest left held) where
   pub count_end : left ≤ 0 → true ≡ goal
@@ -144,10 +138,10 @@ module _ (es : List Entry) (goal : Bool) (most : ℕ) (rest : List ℕ) (left he
 
 -- ---- a name
 
-module _ (name r : List ℕ) (l : Laid r) (o : OptionName) (f : found_option o ≡ number_from 0 name (view r).entries) where
-  pub number_known : (n : NameNumber) → o ≡ Name n → Numbered name (view r) n r
+module _ (name r : List ℕ) (l : Laid r) (o : Option NameNumber) (f : found_option o ≡ number_from 0 name (view r).entries) where
+  pub number_known : (n : NameNumber) → o ≡ Some n → Numbered name (view r) n r
   number_known n q =
-      let p : number_from 0 name (view r).entries ≡ some n.0 = sym f ∙ ap found_option q in
+      let p : number_from 0 name (view r).entries ≡ Some n.0 = sym f ∙ ap found_option q in
       let g : Found (record { name = name; object = 0 }) (view r).entries 0 n.0 = number_found (record { name = name; object = 0 }) (view r).entries 0 n.0 p in
       let a : n.0 ≡ 0 + g.place = g.at in
       let b : g.place < count (view r) = g.near in
@@ -158,8 +152,8 @@ module _ (name r : List ℕ) (l : Laid r) (o : OptionName) (f : found_option o �
         below = omega arith;
       }
 
-  module _ (q : o ≡ NoName) where
-    unknown : number_from 0 name (view r).entries ≡ none
+  module _ (q : o ≡ None) where
+    unknown : number_from 0 name (view r).entries ≡ None
     unknown = sym f ∙ ap found_option q
 
     pub number_room : Numbers name (view r) → count (view r) < 256
@@ -182,14 +176,14 @@ module _ (name r : List ℕ) (l : Laid r) (o : OptionName) (f : found_option o �
 
 -- ---- a line
 
-module _ (r l : List ℕ) (laid : Laid r) (h : LineLoads (ref_in l) (view r)) (o : OptionNumber) (e : ref_by o l ≡ ref_in l) where
-  pub load_none : o ≡ NoNumber → LineLoaded (ref_in l) (view r) r
+module _ (r l : List ℕ) (laid : Laid r) (h : LineLoads (ref_in l) (view r)) (o : Option ℕ) (e : ref_by o l ≡ ref_in l) where
+  pub load_none : o ≡ None → LineLoaded (ref_in l) (view r) r
   load_none q =
-      let p : ref_in l ≡ none = sym e ∙ ap (λ (o : OptionNumber). ref_by o l) q in
+      let p : ref_in l ≡ None = sym e ∙ ap (λ (o : Option ℕ). ref_by o l) q in
       record { laid = laid; seen = sym (ap (λ (x : Option Ref). after_line x (view r)) p) }
 
-  module _ (x : ℕ) (q : o ≡ Number x) where
-    is_the : ref_in l ≡ some (record { name = drop 41 l; object = x })
+  module _ (x : ℕ) (q : o ≡ Some x) where
+    is_the : ref_in l ≡ Some (record { name = drop 41 l; object = x })
     is_the = line_ref l o e x q
 
     can : (i : ℕ) → get_or (is_name (drop 41 l) ∷ is_id x ∷ packable (drop 41 l) ∷ []) i true ≡ true
@@ -200,20 +194,20 @@ module _ (r l : List ℕ) (laid : Laid r) (h : LineLoads (ref_in l) (view r)) (o
         subst (λ (n : List ℕ). Numbers n (view r)) (sym (to_end l 41))
         (record { short = (is_named (drop 41 l) (can 0)).short; room = h.room (record { name = drop 41 l; object = x }) is_the })
 
-    pub load_fits : FitsPacked (packed.Object (record { 0 = x }))
+    pub load_fits : FitsPacked (Some (record { 0 = x }))
     load_fits =
         let b : (ltb 0 x ≡ true) × (ltb x (2 ^ 64) ≡ true) = both_true (ltb 0 x) _ (can 1) in
         (ltb-true 0 x b.0, ltb-true x (2 ^ 64) b.1)
 
     pub load_done : (n : NameNumber) (r₁ r₂ : List ℕ) → Numbered (take (length l - 41) (drop 41 l)) (view r) n r₁
-        → Became r₂ (change_entry (put_packed (packed.Object (record { 0 = x }))) n.0 (view r₁)) → LineLoaded (ref_in l) (view r) r₂
+        → Became r₂ (change_entry (put_packed (Some (record { 0 = x }))) n.0 (view r₁)) → LineLoaded (ref_in l) (view r) r₂
     load_done n r₁ r₂ g b =
         let k : Numbered (drop 41 l) (view r) n r₁ = subst (λ (m : List ℕ). Numbered m (view r) n r₁) (to_end l 41) g in
         record {
           laid = b.laid;
           seen =
               b.seen
-              ∙ ap₂ (λ (m : ℕ) (s : Store). change_entry (put_packed (packed.Object (record { 0 = x }))) m s) k.number k.seen
+              ∙ ap₂ (λ (m : ℕ) (s : Store). change_entry (put_packed (Some (record { 0 = x }))) m s) k.number k.seen
               ∙ sym (ap (λ (o : Option Ref). after_line o (view r)) is_the);
         }
 
@@ -225,7 +219,7 @@ pub record Loading (rs : List Ref) (s : Store) (most : ℕ) (rest : List ℕ) (l
   pub more : left < length (pieces 10 rest)
   pub can : all can_load (first_refs left rest) ≡ true
   pub then : Store
-  pub loads : loaded (first_refs left rest) (view r) ≡ pass then
+  pub loads : loaded (first_refs left rest) (view r) ≡ Ok then
   pub same : after_refs (first_refs left rest) (view r) ≡ after_refs rs s
 
 pub load_start : (t : List ℕ) (lines : ℕ) (r : List ℕ) → Laid r → lines < length (pieces 10 t) → LinesLoad (first_refs lines t) (view r)
@@ -233,38 +227,38 @@ pub load_start : (t : List ℕ) (lines : ℕ) (r : List ℕ) → Laid r → line
 load_start t lines r l h g = record { within = omega arith; laid = l; more = h; can = g.can; then = g.then; loads = g.loads; same = refl }
 
 -- a name that loading a ref would add has room
-ref_room : (r : Ref) (s t : Store) → ref_loaded r s ≡ pass t → number_from 0 r.name s.entries ≡ none → count s < 256
+ref_room : (r : Ref) (s t : Store) → ref_loaded r s ≡ Ok t → number_from 0 r.name s.entries ≡ None → count s < 256
 unfolding ref_loaded
 ref_room r s t e q = go (leb 256 (count s)) refl (sym (ap (ref_loaded_as r s) q) ∙ e)
   where
-    go : (b : Bool) → leb 256 (count s) ≡ b → ref_loaded_as r s none ≡ pass t → count s < 256
+    go : (b : Bool) → leb 256 (count s) ≡ b → ref_loaded_as r s None ≡ Ok t → count s < 256
     go true p f = absurd (refuse_pass (rw p at f))
     go false p f = leb-false 256 (count s) p
 
 abbrev Parts : Option Ref → List Ref → Store → Store → Type 0
-Parts o rs s t = LineLoads o s × ((u : Store) × (loaded rs u ≡ pass t) × (u ≡ after_line o s)) × (all can_load rs ≡ true)
+Parts o rs s t = LineLoads o s × ((u : Store) × (loaded rs u ≡ Ok t) × (u ≡ after_line o s)) × (all can_load rs ≡ true)
 
-parts : (o : Option Ref) (rs : List Ref) (s t : Store) → all can_load (refs_of o ++ rs) ≡ true → loaded (refs_of o ++ rs) s ≡ pass t → Parts o rs s t
+parts : (o : Option Ref) (rs : List Ref) (s t : Store) → all can_load (refs_of o ++ rs) ≡ true → loaded (refs_of o ++ rs) s ≡ Ok t → Parts o rs s t
 unfolding loaded
-parts none rs s t c e = (
+parts None rs s t c e = (
   record { can = λ r q. absurd (none_some q); room = λ r q. absurd (none_some q) },
   (s, e, refl),
   c,
 )
-parts (some x) rs s t c e =
+parts (Some x) rs s t c e =
     let b : (can_load x ≡ true) × (all can_load rs ≡ true) = both_true (can_load x) (all can_load rs) c in
     pass_then (ref_loaded x s) (loaded rs) t e (λ u p q. (
       record {
         can = λ r w. subst (λ (y : Ref). can_load y ≡ true) (some_is w) b.0;
-        room = λ r w. subst (λ (y : Ref). number_from 0 y.name s.entries ≡ none → count s < 256) (some_is w) (ref_room x s u p);
+        room = λ r w. subst (λ (y : Ref). number_from 0 y.name s.entries ≡ None → count s < 256) (some_is w) (ref_room x s u p);
       },
       (u, q, after_ref_lem x s u p),
       b.1,
     ))
 
 after_parts : (o : Option Ref) (rs : List Ref) (s : Store) → after_refs (refs_of o ++ rs) s ≡ after_refs rs (after_line o s)
-after_parts none rs s = refl
-after_parts (some r) rs s = refl
+after_parts None rs s = refl
+after_parts (Some r) rs s = refl
 
 module _ (rs : List Ref) (s : Store) (most : ℕ) (rest : List ℕ) (left : ℕ) (r : List ℕ) (c : Loading rs s most rest left r) where
   pub load_end : left ≤ 0 → LinesLoaded rs s r

@@ -1,4 +1,5 @@
 -- Reading a text: what each way out answers. Assumes nothing.
+use Rattle.std.specs.Prelude.{Ok, Err}
 use mathlib.Core.Path.{◌≡◌, refl, sym, ap, subst, ◌∙◌}
 use mathlib.Core.Bool.{Bool, true, false, not}
 use mathlib.Core.List.{List, [], ◌∷◌}
@@ -9,14 +10,13 @@ use Rattle.model.specs.declared.Refusal.{Refusal}
 use Rattle.model.specs.declared.Refusal.TheVariants.{NamesFull, BadLoad, MalformedLine, WrongState}
 use Rattle.model.specs.Names.{pieces}
 use Rattle.model.specs.Store.{Store, count, is_prepared}
-use Rattle.model.specs.Outcome.Outcome.{refuse, pass}
 use Rattle.model.specs.Reply.Call.{read_packed}
 use Rattle.model.specs.Reply.Reply.{done, refused}
 use Rattle.model.specs.Reply.Given.{number}
 use Rattle.model.specs.PackedText.{Ref, line_feed, Reading, read_text, unpacked, loaded}
 use Rattle.model.specs.PackedText.End.{whole, faulty}
 use Rattle.model.specs.Calls.{text_read, step}
-use Rattle.model.specs.Numbers.{answer, refusal_answer}
+use Rattle.model.specs.Numbers.{answer}
 use Rattle.model.proofs.TextLines.{Chain, read_chain}
 use Rattle.texts.specs.declared.walk.Ending.{Ending}
 use Rattle.texts.specs.declared.walk.Ending.TheVariants as ending
@@ -34,16 +34,16 @@ use Rattle.packing.proofs.Room.{room_there, room_gone, after_refs_lem, chain_can
 -- ---- what the model's reading comes to, by its parts
 
 module _ (t : List ℕ) (s : Store) (idle : is_prepared s.prepared ≡ false) where
-  pub reads_full : loaded (read_text t).refs (unpacked s) ≡ refuse NamesFull → step (read_packed t) s ≡ refused NamesFull
+  pub reads_full : loaded (read_text t).refs (unpacked s) ≡ Err NamesFull → step (read_packed t) s ≡ refused NamesFull
   unfolding step text_read
   reads_full e = rw (idle, e)
 
-  pub reads_faulty : (u : Store) (i : ℕ) (x : Refusal) → loaded (read_text t).refs (unpacked s) ≡ pass u → (read_text t).end ≡ faulty i x
+  pub reads_faulty : (u : Store) (i : ℕ) (x : Refusal) → loaded (read_text t).refs (unpacked s) ≡ Ok u → (read_text t).end ≡ faulty i x
       → step (read_packed t) s ≡ refused x
   unfolding step text_read
   reads_faulty u i x e f = rw (idle, e, f)
 
-  pub reads_whole : (u : Store) → loaded (read_text t).refs (unpacked s) ≡ pass u → (read_text t).end ≡ whole
+  pub reads_whole : (u : Store) → loaded (read_text t).refs (unpacked s) ≡ Ok u → (read_text t).end ≡ whole
       → step (read_packed t) s ≡ done u (number (length (read_text t).refs))
   unfolding step text_read
   reads_whole u e f = rw (idle, e, f)
@@ -56,9 +56,9 @@ chain_of t = read_chain (pieces line_feed t) 1 [] false
 -- ---- each way out
 
 module _ (t r : List ℕ) (ok : Bool) (is : ok ≡ good r) (y : not ok ≡ false) (m : ℕ) (em : m ≡ mode_byte (view r).prepared) where
-  pub read_busy : (v : Verdict) → (m ≡ 0 → ⊥) → answer_by v ≡ answer 15 [] → Replied v r r (reply_to (read_packed t) r)
-  unfolding step text_read refusal_answer
-  read_busy v h a = says_no (read_packed t) r ok is refl y WrongState v a (rw (is_prepared_lem (view r).prepared (λ (q : mode_byte (view r).prepared ≡ 0). h (em ∙ q))))
+  pub read_busy : (m ≡ 0 → ⊥) → Replied (Err WrongState) r r (reply_to (read_packed t) r)
+  unfolding step text_read
+  read_busy h = says_no (read_packed t) r ok is refl y WrongState (rw (is_prepared_lem (view r).prepared (λ (q : mode_byte (view r).prepared ≡ 0). h (em ∙ q))))
 
   module _ (c : Checked) (k : Checks t c) where
     pub checked_lines : c.lines < length (pieces 10 t)
@@ -80,30 +80,27 @@ module _ (t r : List ℕ) (ok : Bool) (is : ok ≡ good r) (y : not ok ≡ false
       idle : is_prepared (view r).prepared ≡ false
       idle = ap is_prepared (not_prepared (view r).prepared (sym em ∙ z))
 
-      pub read_full : (v : Verdict) → not b ≡ true → answer_by v ≡ answer 19 [] → Replied v r r (reply_to (read_packed t) r)
-      unfolding refusal_answer
-      read_full v h a =
-          says_no (read_packed t) r ok is refl y NamesFull v a
+      pub read_full : not b ≡ true → Replied (Err NamesFull) r r (reply_to (read_packed t) r)
+      read_full h =
+          says_no (read_packed t) r ok is refl y NamesFull
           (reads_full t (view r) idle
           (ap (λ (rs : List Ref). loaded rs (unpacked (view r))) refs ∙ room_gone (first_refs c.lines t) [] (view r) chain few (sym eb ∙ not-true b h)))
 
       module _ (h : not b ≡ false) where
-        there : (u : Store) × (loaded (first_refs c.lines t) (unpacked (view r)) ≡ pass u)
+        there : (u : Store) × (loaded (first_refs c.lines t) (unpacked (view r)) ≡ Ok u)
         there = room_there (first_refs c.lines t) [] (view r) chain few (sym eb ∙ not-false b h)
 
-        loads : loaded (read_text t).refs (unpacked (view r)) ≡ pass there.0
+        loads : loaded (read_text t).refs (unpacked (view r)) ≡ Ok there.0
         loads = ap (λ (rs : List Ref). loaded rs (unpacked (view r))) refs ∙ there.1
 
-        pub read_malformed : (v : Verdict) → c.ending ≡ ending.Malformed → answer_by v ≡ answer 27 ((c.lines + 1) ∷ []) → Replied v r r (reply_to (read_packed t) r)
-        unfolding refusal_answer
-        read_malformed v q a =
-            says_no (read_packed t) r ok is refl y (MalformedLine (c.lines + 1)) v a
+        pub read_malformed : c.ending ≡ ending.Malformed → Replied (Err (MalformedLine (c.lines + 1))) r r (reply_to (read_packed t) r)
+        read_malformed q =
+            says_no (read_packed t) r ok is refl y (MalformedLine (c.lines + 1))
             (reads_faulty t (view r) idle there.0 (c.lines + 1) (MalformedLine (c.lines + 1)) loads (end ∙ ap (λ (e : Ending). end_by e (c.lines + 1)) q))
 
-        pub read_unpackable : (v : Verdict) → c.ending ≡ ending.Unpackable → answer_by v ≡ answer 21 [] → Replied v r r (reply_to (read_packed t) r)
-        unfolding refusal_answer
-        read_unpackable v q a =
-            says_no (read_packed t) r ok is refl y BadLoad v a
+        pub read_unpackable : c.ending ≡ ending.Unpackable → Replied (Err BadLoad) r r (reply_to (read_packed t) r)
+        read_unpackable q =
+            says_no (read_packed t) r ok is refl y BadLoad
             (reads_faulty t (view r) idle there.0 (c.lines + 1) BadLoad loads (end ∙ ap (λ (e : Ending). end_by e (c.lines + 1)) q))
 
         -- past all, the packed values go first
@@ -115,7 +112,7 @@ module _ (t r : List ℕ) (ok : Bool) (is : ok ≡ good r) (y : not ok ≡ false
         }
 
         pub read_done : (v : Verdict) (r₁ r₂ : List ℕ) → c.ending ≡ ending.Whole → Became r₁ (unpacked (view r)) → LinesLoaded (first_refs c.lines t) (view r₁) r₂
-            → answer_by v ≡ answer 0 (c.refs ∷ []) → Replied v r r₂ (reply_to (read_packed t) r)
+            → answer_by v ≡ answer 0 (c.refs ∷ []) → Replied (Ok v) r r₂ (reply_to (read_packed t) r)
         read_done v r₁ r₂ q g w a =
             let n : c.refs ≡ length (read_text t).refs = k.refs ∙ ap length (sym refs) in
             let s : view r₂ ≡ there.0 =

@@ -7,9 +7,8 @@ ghost use Rattle.texts.specs.Walk.{first_refs};
 ghost use Rattle.region.specs.Region.{view, Laid};
 ghost use Rattle.packing.specs.Load.{held_with, fits, Numbers, Numbered, LineLoads, LineLoaded, LinesLoad, LinesLoaded};
 
-use model::Packed;
-use target::{NameNumber, ObjectNumber, OptionName};
-use texts::{OptionNumber, RefLine};
+use target::{NameNumber, ObjectNumber};
+use texts::RefLine;
 
 // ---- room
 
@@ -19,10 +18,10 @@ fn held_with(region: &[u8], line: &[u8], held: usize) -> usize
     requires held_bound { held ≤ 256 }
     ensures { result ≡ held_with (view region.now).entries (ref_in line.now) held }
 {
-    let OptionNumber::Number(_) = texts::reference(line) else {
+    let Some(_) = texts::reference(line) else {
         return held;
     };
-    let OptionName::Name(_) = steps::find_name(region, &line[RefLine::NAME..]) else {
+    let Some(_) = steps::find_name(region, &line[RefLine::NAME..]) else {
         return held + 1;
     };
     held
@@ -36,8 +35,7 @@ pub fn has_room(region: &[u8], text: &[u8], lines: u64) -> bool
 {
     let mut held = region::count_names(region);
     let mut rest = text;
-    let mut left = lines;
-    while 0 < left {
+    for left in (0..lines).rev() {
         let length = names::spelling::up_to(rest, RefLine::LINE_FEED);
         let more = held_with(region, &rest[..length], held);
         if more > NameNumber::LIMIT {
@@ -45,7 +43,6 @@ pub fn has_room(region: &[u8], text: &[u8], lines: u64) -> bool
         }
         held = more;
         rest = &rest[length + 1..];
-        left -= 1;
     }
     true
 }
@@ -58,7 +55,7 @@ fn number_of(region: &mut [u8], name: &[u8]) -> NameNumber
     requires numbers { Numbers name.now (view region.old) }
     ensures { Numbered name.now (view region.old) result region.new }
 {
-    if let OptionName::Name(known) = steps::find_name(region, name) {
+    if let Some(known) = steps::find_name(region, name) {
         return known;
     }
     let n = region::count_names(region);
@@ -72,11 +69,11 @@ fn load_line(region: &mut [u8], line: &[u8])
     requires line_loads { LineLoads (ref_in line.now) (view region.old) }
     ensures { LineLoaded (ref_in line.now) (view region.old) region.new }
 {
-    let OptionNumber::Number(object) = texts::reference(line) else {
+    let Some(object) = texts::reference(line) else {
         return;
     };
     let name = number_of(region, &line[RefLine::NAME..]);
-    writers::put_packed_at(region, name, Packed::Object(ObjectNumber(object)));
+    writers::put_packed_at(region, name, Some(ObjectNumber(object)));
 }
 
 // The first lines of the text.
@@ -87,11 +84,9 @@ pub fn load_lines(region: &mut [u8], text: &[u8], lines: u64)
     ensures { LinesLoaded (first_refs lines text.now) (view region.old) region.new }
 {
     let mut rest = text;
-    let mut left = lines;
-    while 0 < left {
+    for left in (0..lines).rev() {
         let length = names::spelling::up_to(rest, RefLine::LINE_FEED);
         load_line(region, &rest[..length]);
         rest = &rest[length + 1..];
-        left -= 1;
     }
 }

@@ -1,14 +1,13 @@
 -- Locks taken: a row's, the turns of the loop over the rows, the packed table's, and the store that they leave. Assumes nothing.
+use Rattle.std.specs.Prelude.{Option, Some}
 use mathlib.Core.Path.{◌≡◌, refl, sym, ap, ◌∙◌}
-use mathlib.Core.Bool.{Bool, true, false, not, cond}
+use mathlib.Core.Bool.{Bool, true, false, cond}
 use mathlib.Core.List.{List, [], ◌∷◌, map}
-use mathlib.Core.Option.{Option, some}
 use Prim.Native.Nat.{ℕ, ◌+◌, ◌<◌, ◌≤◌}
 use native.Mathlib.Numerals.{add-one}
 use native.Mathlib.Omega.{arith}
 use lib.ListN.{length, drop, drop_of_length-le}
 use lib.Seq.{drop-cons}
-use borrow.Author.Tests.{not-true, not-false}
 use Rattle.transaction.specs.declared.PackedRefs.{PackedRefs}
 use Rattle.transaction.specs.declared.Edit.{Edit}
 use Rattle.model.specs.declared.Lock.{Lock}
@@ -31,16 +30,16 @@ module _ (r : List ℕ) (mode : PackedRefs) (x row : Edit) (k : Bool) (ex : x �
   asked : keeps_lock (view r) mode row ≡ k
   asked = ap (keeps_lock (view r) mode) (sym ex) ∙ sym ek
 
-  pub row_passed : Laid r → not k ≡ true → Became r (held_by mode row (view r))
+  pub row_passed : Laid r → k ≡ false → Became r (held_by mode row (view r))
   unfolding held_by
-  row_passed h t = record { laid = h; seen = sym (rw (asked ∙ not-true k t)) }
+  row_passed h t = record { laid = h; seen = sym (rw (asked ∙ t)) }
 
-  pub row_held : (r' : List ℕ) → not k ≡ false → Became r' (change_entry (put_lock Ours) (name_in x).0 (view r)) → Became r' (held_by mode row (view r))
+  pub row_held : (r' : List ℕ) → k ≡ true → Became r' (change_entry (put_lock Ours) (name_in x).0 (view r)) → Became r' (held_by mode row (view r))
   unfolding held_by
   row_held r' t g =
       record {
         laid = g.laid;
-        seen = g.seen ∙ ap (λ (y : Edit). change_entry (put_lock Ours) (name_in y).0 (view r)) ex ∙ sym (rw (asked ∙ not-false k t));
+        seen = g.seen ∙ ap (λ (y : Edit). change_entry (put_lock Ours) (name_in y).0 (view r)) ex ∙ sym (rw (asked ∙ t));
       }
 
 -- the row that is read is the row whose name is registered
@@ -127,13 +126,13 @@ names_held_lem s r i n k h l e = record { laid = k; seen = held_end s (view r) i
 -- ---- the packed table
 
 module _ (r : List ℕ) (k : Bool) (ek : k ≡ opens (view r) (mode_in (view r).prepared) (rows_in (view r).prepared)) where
-  pub table_passed : Laid r → not k ≡ true → Became r (table_held (view r))
+  pub table_passed : Laid r → k ≡ false → Became r (table_held (view r))
   unfolding table_held
-  table_passed h t = record { laid = h; seen = sym (ap (λ (b : Bool). with_packed_lock (view r) (cond b Ours (view r).packed_lock)) (sym ek ∙ not-true k t)) }
+  table_passed h t = record { laid = h; seen = sym (ap (λ (b : Bool). with_packed_lock (view r) (cond b Ours (view r).packed_lock)) (sym ek ∙ t)) }
 
-  pub table_held_lem : (r' : List ℕ) → not k ≡ false → Became r' (with_packed_lock (view r) Ours) → Became r' (table_held (view r))
+  pub table_held_lem : (r' : List ℕ) → k ≡ true → Became r' (with_packed_lock (view r) Ours) → Became r' (table_held (view r))
   unfolding table_held
-  table_held_lem r' t g = record { laid = g.laid; seen = g.seen ∙ sym (ap (λ (b : Bool). with_packed_lock (view r) (cond b Ours (view r).packed_lock)) (sym ek ∙ not-false k t)) }
+  table_held_lem r' t g = record { laid = g.laid; seen = g.seen ∙ sym (ap (λ (b : Bool). with_packed_lock (view r) (cond b Ours (view r).packed_lock)) (sym ek ∙ t)) }
 
 -- names and rows are as they were
 pub table_named : (r : List ℕ) (s : Store) → Named s → Became r (table_held s) → Named (view r)
@@ -164,14 +163,14 @@ opens_same : (s : Store) (p : Option Prepared) (mode : PackedRefs) (rows : List 
 unfolding opens counts
 opens_same s p mode rows = refl
 
-pub held_is : (s : Store) (mode : PackedRefs) (rows : List Edit) → names_held (table_held (with_prepared s (some (record { mode = mode; rows = rows })))) ≡ held (record { mode = mode; rows = rows }) s
+pub held_is : (s : Store) (mode : PackedRefs) (rows : List Edit) → names_held (table_held (with_prepared s (Some (record { mode = mode; rows = rows })))) ≡ held (record { mode = mode; rows = rows }) s
 unfolding names_held table_held held
 held_is s mode rows =
     ap (λ (b : Bool). names_held (with_packed_lock (with_prepared s p) (cond b Ours s.packed_lock))) (opens_same s p mode rows)
     ∙ ap (with_entries (with_packed_lock (with_prepared s p) l)) (holding_same s l p mode rows s.entries)
   where
     p : Option Prepared
-    p = some (record { mode = mode; rows = rows })
+    p = Some (record { mode = mode; rows = rows })
 
     l : Lock
     l = cond (opens s mode rows) Ours s.packed_lock

@@ -3,7 +3,7 @@
 #![tactic(auto)]
 
 ghost use Rattle.std.specs.Prelude.{◌≡◌, true, ◌&&◌, [], ◌∷◌, map, ◌<◌, length};
-ghost use Rattle.std.proofs.Math.Option.{none};
+ghost use Rattle.std.specs.Prelude.{None};
 ghost use Rattle.word.specs.Codec.{is_some};
 ghost use Rattle.transaction.specs.Change.{row_of};
 ghost use Rattle.model.specs.Basic.{any, collect};
@@ -23,10 +23,9 @@ ghost use Rattle.answers.specs.Answers.{answer_by};
 ghost use Rattle.calls.specs.Call.{reply_to, Replied};
 ghost use Rattle.preparing.specs.Rows.{names_judged, turns_judged, split_judged, judged_rows, list_judged, Begun, held_by, names_held, table_held, prepared_with};
 
-use answers::{Answer, Verdict};
-use edits::OptionNumber;
-use model::{Judged, Lock, Refusal};
-use transaction::{OptionPackedRefs, PackedRefs};
+use answers::Verdict;
+use model::{Lock, Refusal};
+use transaction::PackedRefs;
 
 // ---- 4 to 14
 
@@ -35,60 +34,48 @@ fn is_table_held(region: &[u8]) -> bool
     requires { Laid region.now }
     ensures { result ≡ (any (counts (view region.now)) (rows_in (view region.now).prepared) && is_lock Lock.Foreign (view region.now).packed_lock) }
 {
-    if !kept::any_counting(region, false) {
-        return false;
-    }
-    turns::is_foreign(region::packed_lock(region))
+    kept::any_counting(region, false) && turns::is_foreign(region::packed_lock(region))
 }
 
 // 6, then 7.
-fn judge_names(region: &[u8]) -> Judged
+fn judge_names(region: &[u8]) -> Result<(), Refusal>
     requires { Laid region.now }
     ensures { outcome_by result tt ≡ names_judged (view region.now) (rows_in (view region.now).prepared) }
 {
-    let once = splits::assure_one_name_has_one_edit(region);
-    let Judged::Passed = once else {
-        return once;
-    };
+    splits::assure_one_name_has_one_edit(region)?;
     if is_table_held(region) {
-        return Judged::Refused(Refusal::PackedTransactionAcquire);
+        return Err(Refusal::PackedTransactionAcquire);
     }
-    Judged::Passed
+    Ok(())
 }
 
 // 25 before 8 before 9 to 13, row by row; then 14.
-fn judge_turns(region: &mut [u8]) -> Judged
+fn judge_turns(region: &mut [u8]) -> Result<(), Refusal>
     requires laid { Laid region.old }
     requires upward { Upward (length (rows_in (view region.old).prepared)) (rows_in (view region.old).prepared) }
     ensures { Taken region.old region.new result (turns_judged (view region.old) (mode_in (view region.old).prepared) (rows_in (view region.old).prepared)) }
 {
     let opened = kept::opens_table(region);
     let mode = region::mode(region);
-    let turned = turns::take_turns(region, mode, opened);
-    let Judged::Passed = turned else {
-        return turned;
-    };
+    turns::take_turns(region, mode, opened)?;
     if !kept::room_fine(region) {
-        return Judged::Refused(Refusal::LogFull);
+        return Err(Refusal::LogFull);
     }
-    Judged::Passed
+    Ok(())
 }
 
 // 6 to 14.
-fn judge_split(region: &mut [u8]) -> Judged
+fn judge_split(region: &mut [u8]) -> Result<(), Refusal>
     requires laid { Laid region.old }
     requires upward { Upward (length (rows_in (view region.old).prepared)) (rows_in (view region.old).prepared) }
     ensures { Taken region.old region.new result (split_judged (view region.old) (mode_in (view region.old).prepared) (rows_in (view region.old).prepared)) }
 {
-    let names = judge_names(region);
-    let Judged::Passed = names else {
-        return names;
-    };
+    judge_names(region)?;
     judge_turns(region)
 }
 
 // 4 or 5: the rows of the list, split.
-fn split_rows(region: &mut [u8], list: &[u8]) -> Judged
+fn split_rows(region: &mut [u8], list: &[u8]) -> Result<(), Refusal>
     requires laid { Laid region.old }
     requires region_value { is_prepared (view region.old).prepared ≡ true }
     requires region_value_2 { rows_in (view region.old).prepared ≡ [] }
@@ -100,17 +87,14 @@ fn split_rows(region: &mut [u8], list: &[u8]) -> Judged
 }
 
 // The rows of the list, split and judged.
-fn judge_rows(region: &mut [u8], list: &[u8]) -> Judged
+fn judge_rows(region: &mut [u8], list: &[u8]) -> Result<(), Refusal>
     requires laid { Laid region.old }
     requires region_value { is_prepared (view region.old).prepared ≡ true }
     requires region_value_2 { rows_in (view region.old).prepared ≡ [] }
     requires registered { Registered list.now }
     ensures { Taken region.old region.new result (judged_rows (view region.old) (mode_in (view region.old).prepared) (edits_in list.now)) }
 {
-    let split = split_rows(region, list);
-    let Judged::Passed = split else {
-        return split;
-    };
+    split_rows(region, list)?;
     judge_split(region)
 }
 
@@ -123,11 +107,9 @@ fn hold_row(region: &mut [u8], mode: PackedRefs, i: usize)
     ensures { Became region.new (held_by mode (row_at (rows_in (view region.old).prepared) i) (view region.old)) }
 {
     let row = region::row_at(region, i);
-    if !rows::keeps_lock(region, mode, row) {
-        return;
+    if rows::keeps_lock(region, mode, row) {
+        writers::put_lock_at(region, row.update.name, Lock::Ours);
     }
-    let update = row.update;
-    writers::put_lock_at(region, update.name, Lock::Ours);
 }
 
 fn hold_names(region: &mut [u8])
@@ -137,10 +119,8 @@ fn hold_names(region: &mut [u8])
 {
     let mode = region::mode(region);
     let rows = region::count_rows(region);
-    let mut i: usize = 0;
-    while i < rows {
+    for i in 0..rows {
         hold_row(region, mode, i);
-        i += 1;
     }
 }
 
@@ -148,10 +128,9 @@ fn hold_table(region: &mut [u8])
     requires { Laid region.old }
     ensures { Became region.new (table_held (view region.old)) }
 {
-    if !kept::opens_table(region) {
-        return;
+    if kept::opens_table(region) {
+        writers::put_packed_lock(region, Lock::Ours);
     }
-    writers::put_packed_lock(region, Lock::Ours);
 }
 
 // The rows are taken: how many they are.
@@ -163,17 +142,17 @@ fn hold_rows(region: &mut [u8]) -> Verdict
     let rows = region::count_rows(region);
     hold_table(region);
     hold_names(region);
-    Verdict::one(Answer::DONE, rows as u64)
+    Verdict::done(&[rows as u64])
 }
 
 // ---- the call
 
 // The rows of a list whose names are registered, built and judged.
-fn judge_list(region: &mut [u8], list: &[u8], mode: PackedRefs) -> Judged
+fn judge_list(region: &mut [u8], list: &[u8], mode: PackedRefs) -> Result<(), Refusal>
     requires laid { Laid region.old }
-    requires region_value { (view region.old).prepared ≡ none }
+    requires region_value { (view region.old).prepared ≡ None }
     requires list_value { is_some (edits_of list.now) ≡ true }
-    requires list_value_2 { first_out (count (view region.old)) (collect numbers_of (edits_in list.now)) ≡ none }
+    requires list_value_2 { first_out (count (view region.old)) (collect numbers_of (edits_in list.now)) ≡ None }
     ensures { Begun region.old region.new result mode (judged_rows (view region.old) mode (edits_in list.now)) }
 {
     writers::begin_rows(region, mode);
@@ -181,62 +160,60 @@ fn judge_list(region: &mut [u8], list: &[u8], mode: PackedRefs) -> Judged
 }
 
 // The rows take their place, or the region is as it was.
-fn prepare_rows(region: &mut [u8], list: &[u8], mode: PackedRefs) -> Verdict
+fn prepare_rows(region: &mut [u8], list: &[u8], mode: PackedRefs) -> Result<Verdict, Refusal>
     requires laid { Laid region.old }
     requires fine { Fine (view region.old) }
-    requires region_value { (view region.old).prepared ≡ none }
+    requires region_value { (view region.old).prepared ≡ None }
     requires list_value { is_some (edits_of list.now) ≡ true }
-    requires list_value_2 { first_out (count (view region.old)) (collect numbers_of (edits_in list.now)) ≡ none }
+    requires list_value_2 { first_out (count (view region.old)) (collect numbers_of (edits_in list.now)) ≡ None }
     ensures { Replied result region.old region.new (prepared_with mode (view region.old) (judged_rows (view region.old) mode (edits_in list.now))) }
 {
-    let judged = judge_list(region, list, mode);
-    let Judged::Refused(why) = judged else {
-        return hold_rows(region);
-    };
-    writers::forget_rows(region);
-    Verdict::refusal(why)
+    if let Err(why) = judge_list(region, list, mode) {
+        writers::forget_rows(region);
+        return Err(why);
+    }
+    Ok(hold_rows(region))
 }
 
 // 3, then the rows.
-fn prepare_list(region: &mut [u8], list: &[u8], mode: PackedRefs) -> Verdict
+fn prepare_list(region: &mut [u8], list: &[u8], mode: PackedRefs) -> Result<Verdict, Refusal>
     requires laid { Laid region.old }
     requires fine { Fine (view region.old) }
-    requires region_value { (view region.old).prepared ≡ none }
+    requires region_value { (view region.old).prepared ≡ None }
     requires list_value { is_some (edits_of list.now) ≡ true }
     ensures { Replied result region.old region.new (prepared_with mode (view region.old) (list_judged (view region.old) mode (edits_in list.now))) }
 {
     let names = region::count_names(region);
-    let out = edits::first_out(list, names as u64);
-    let OptionNumber::Number(number) = out else {
-        return prepare_rows(region, list, mode);
-    };
-    Verdict::one(Answer::NOT_REGISTERED, number)
+    if let Some(number) = edits::first_out(list, names as u64) {
+        return Err(Refusal::NotRegistered(number));
+    }
+    prepare_rows(region, list, mode)
 }
 
 // 2, then the list: nothing is prepared yet.
-fn prepare_idle(region: &mut [u8], list: &[u8], mode: u64) -> Verdict
+fn prepare_idle(region: &mut [u8], list: &[u8], mode: u64) -> Result<Verdict, Refusal>
     requires laid { Laid region.old }
     requires fine { Fine (view region.old) }
-    requires region_value { (view region.old).prepared ≡ none }
+    requires region_value { (view region.old).prepared ≡ None }
     ensures { Replied result region.old region.new (step (prepare list.now mode) (view region.old)) }
 {
     if !edits::is_list(list) {
-        return Verdict::bare(Answer::MALFORMED);
+        return Err(Refusal::Malformed);
     }
-    let OptionPackedRefs::Mode(packed) = PackedRefs::new(mode) else {
-        return Verdict::bare(Answer::MALFORMED);
+    let Ok(packed) = PackedRefs::try_from(mode) else {
+        return Err(Refusal::Malformed);
     };
     prepare_list(region, list, packed)
 }
 
-pub fn prepare(region: &mut [u8], list: &[u8], mode: u64) -> Verdict
+pub fn prepare(region: &mut [u8], list: &[u8], mode: u64) -> Result<Verdict, Refusal>
     ensures { Replied result region.old region.new (reply_to (prepare list.now mode) region.old) }
 {
     if !good::is_good(region) {
-        return Verdict::bare(Answer::BAD_REGION);
+        return Err(Refusal::BadRegion);
     }
     if region::mode_number(region) != 0 {
-        return Verdict::bare(Answer::WRONG_STATE);
+        return Err(Refusal::WrongState);
     }
     prepare_idle(region, list, mode)
 }

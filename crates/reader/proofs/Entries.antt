@@ -1,8 +1,8 @@
 -- An entry by its bytes: where reading it stops, and what is read. Assumes nothing.
+use Rattle.std.specs.Prelude.{Option, Some, None}
 use mathlib.Core.Path.{◌≡◌, refl, sym, ap, ap₂, ◌∙◌}
 use mathlib.Core.Bool.{Bool, true, false, ◌&&◌, cond}
 use mathlib.Core.List.{List, [], ◌∷◌}
-use mathlib.Core.Option.{Option, none, some}
 use Prim.Native.Nat.{ℕ, zero, suc, ◌+◌, ◌-◌, ◌≤◌, ◌<◌}
 use native.Mathlib.Omega.{arith}
 use lib.ListN.{length, take, drop, length-drop}
@@ -17,11 +17,7 @@ use Rattle.model.proofs.Binds.{none_some, some_is, some_then}
 use Rattle.settings.specs.Format.{Split, Number, within, split, tagged, entry_in, numbered, number_in}
 use Rattle.settings.proofs.Splits.{split_at, split_past, split_some}
 use Rattle.settings.proofs.Entries.{tagged_back}
-use Rattle.reader.specs.declared.OptionLength.{OptionLength}
-use Rattle.reader.specs.declared.OptionLength.TheVariants.{NoLength, Length}
-use Rattle.reader.specs.declared.OptionNumber.{OptionNumber}
-use Rattle.reader.specs.declared.OptionNumber.TheVariants as option_number
-use Rattle.reader.specs.Reading.{length_option, number_option, size_in, value_in}
+use Rattle.reader.specs.Reading.{size_in, value_in}
 
 -- one byte as a number
 pub byte : (b : ℕ) → val (b ∷ []) ≡ b
@@ -38,48 +34,48 @@ behind_size tag a b r = rw (split_at 2 (a ∷ b ∷ r) (omega arith))
 
 -- with its tag, and k bytes of content
 pub with_tag : (tag a b t k : ℕ) (r : List ℕ) → val (a ∷ b ∷ []) ≡ suc k → k ≤ length r
-    → entry_in tag (a ∷ b ∷ t ∷ r) ≡ cond (eqb t tag) (some (record { front = take k r; behind = drop k r })) none
+    → entry_in tag (a ∷ b ∷ t ∷ r) ≡ cond (eqb t tag) (Some (record { front = take k r; behind = drop k r })) None
 with_tag tag a b t k r e h =
     behind_size tag a b (t ∷ r) ∙ rw (e, split_at (suc k) (t ∷ r) (omega arith))
 
 -- no content can have so many bytes
-past_end : (tag n : ℕ) (r : List ℕ) → length r < n → (split n r >>= λ rest. tagged tag rest.front rest.behind) ≡ none
+past_end : (tag n : ℕ) (r : List ℕ) → length r < n → (split n r >>= λ rest. tagged tag rest.front rest.behind) ≡ None
 past_end tag n r h = rw (split_past n r h)
 
-no_tag : (tag : ℕ) (r : List ℕ) → (split 0 r >>= λ rest. tagged tag rest.front rest.behind) ≡ none
+no_tag : (tag : ℕ) (r : List ℕ) → (split 0 r >>= λ rest. tagged tag rest.front rest.behind) ≡ None
 no_tag tag r = rw (split_at 0 r (omega arith))
 
-pub content_short : (tag : ℕ) (r : List ℕ) → length r < 3 → none ≡ size_in (entry_in tag r)
+pub content_short : (tag : ℕ) (r : List ℕ) → length r < 3 → None ≡ size_in (entry_in tag r)
 unfolding entry_in split
 content_short tag [] h = refl
 content_short tag (a ∷ []) h = refl
 content_short tag (a ∷ b ∷ []) h = ap size_in (sym (behind_size tag a b [] ∙ go (val (a ∷ b ∷ []))))
   where
-    go : (n : ℕ) → (split n [] >>= λ rest. tagged tag rest.front rest.behind) ≡ none
+    go : (n : ℕ) → (split n [] >>= λ rest. tagged tag rest.front rest.behind) ≡ None
     go zero = no_tag tag []
     go (suc n) = past_end tag (suc n) [] (omega arith)
 content_short tag (a ∷ b ∷ t ∷ r) h = absurd (omega arith)
 
 module _ (tag n : ℕ) where
-  pub content_none : (r : List ℕ) → 3 ≤ length r → n ≡ val (cut 0 2 r) → n ≡ 0 → none ≡ size_in (entry_in tag r)
+  pub content_none : (r : List ℕ) → 3 ≤ length r → n ≡ val (cut 0 2 r) → n ≡ 0 → None ≡ size_in (entry_in tag r)
   content_none [] l e h = absurd (omega arith)
   content_none (a ∷ []) l e h = absurd (omega arith)
   content_none (a ∷ b ∷ r) l e h =
       let z : val (a ∷ b ∷ []) ≡ 0 = sym e ∙ h in
-      let q : entry_in tag (a ∷ b ∷ r) ≡ none = behind_size tag a b r ∙ rw z (no_tag tag r) in
+      let q : entry_in tag (a ∷ b ∷ r) ≡ None = behind_size tag a b r ∙ rw z (no_tag tag r) in
       ap size_in (sym q)
 
-  pub content_past : (r : List ℕ) → 3 ≤ length r → n ≡ val (cut 0 2 r) → length r - 2 < n → none ≡ size_in (entry_in tag r)
+  pub content_past : (r : List ℕ) → 3 ≤ length r → n ≡ val (cut 0 2 r) → length r - 2 < n → None ≡ size_in (entry_in tag r)
   content_past [] l e h = absurd (omega arith)
   content_past (a ∷ []) l e h = absurd (omega arith)
   content_past (a ∷ b ∷ r) l e h =
-      let q : entry_in tag (a ∷ b ∷ r) ≡ none =
+      let q : entry_in tag (a ∷ b ∷ r) ≡ None =
       behind_size tag a b r ∙ past_end tag (val (a ∷ b ∷ [])) r (omega arith) in
       ap size_in (sym q)
 
   module _ (t : ℕ) (z : n ≡ 0 → ⊥) where
     whole : (r : List ℕ) → 3 ≤ length r → n ≡ val (cut 0 2 r) → n ≤ length r - 2 → t ≡ val (cut 2 1 r)
-        → size_in (entry_in tag r) ≡ cond (eqb t tag) (some (n - 1)) none
+        → size_in (entry_in tag r) ≡ cond (eqb t tag) (Some (n - 1)) None
     whole [] l e h f = absurd (omega arith)
     whole (a ∷ []) l e h f = absurd (omega arith)
     whole (a ∷ b ∷ []) l e h f = absurd (omega arith)
@@ -88,19 +84,19 @@ module _ (tag n : ℕ) where
         let s : val (a ∷ b ∷ []) ≡ suc (n - 1) = sym e ∙ omega arith in
         ap size_in (with_tag tag a b u (n - 1) r s k)
         ∙ go (eqb u tag) k
-        ∙ ap (λ (x : ℕ). cond (eqb x tag) (some (n - 1)) none) (sym (f ∙ byte u))
+        ∙ ap (λ (x : ℕ). cond (eqb x tag) (Some (n - 1)) None) (sym (f ∙ byte u))
       where
         go : (q : Bool) → n - 1 ≤ length r
-            → size_in (cond q (some (record { front = take (n - 1) r; behind = drop (n - 1) r })) none) ≡ cond q (some (n - 1)) none
-        go true k = ap (λ (x : ℕ). some x) (length-take-le (n - 1) r k)
+            → size_in (cond q (Some (record { front = take (n - 1) r; behind = drop (n - 1) r })) None) ≡ cond q (Some (n - 1)) None
+        go true k = ap (λ (x : ℕ). Some x) (length-take-le (n - 1) r k)
         go false k = refl
 
     pub content_other : (r : List ℕ) → 3 ≤ length r → n ≡ val (cut 0 2 r) → n ≤ length r - 2 → t ≡ val (cut 2 1 r) → (t ≡ tag → ⊥)
-        → none ≡ size_in (entry_in tag r)
+        → None ≡ size_in (entry_in tag r)
     content_other r l e h f g = sym (whole r l e h f ∙ rw (ne_eqb t tag g))
 
     pub content_is : (r : List ℕ) → 3 ≤ length r → n ≡ val (cut 0 2 r) → n ≤ length r - 2 → t ≡ val (cut 2 1 r) → t ≡ tag
-        → some (n - 1) ≡ size_in (entry_in tag r)
+        → Some (n - 1) ≡ size_in (entry_in tag r)
     content_is r l e h f g = sym (whole r l e h f ∙ rw (eq-eqb t tag g))
 
 -- ---- what an entry that was read is, by places
@@ -132,7 +128,7 @@ stands_from r n e l h s f b =
       behind = b ∙ drop-drop n 2 r ∙ ap (λ (n : ℕ). drop n r) m;
     }
 
-pub entry_stands : (tag : ℕ) (r : List ℕ) (e : Split) → entry_in tag r ≡ some e → Stands r e
+pub entry_stands : (tag : ℕ) (r : List ℕ) (e : Split) → entry_in tag r ≡ Some e → Stands r e
 unfolding entry_in
 entry_stands tag r e h =
     some_then (split 2 r) _ e h λ size p h₁.
@@ -148,33 +144,33 @@ entry_stands tag r e h =
     (t.1 ∙ b.2 ∙ ap (drop n) d)
 
 -- by the length of its content, which is all that the code keeps
-pub content_stands : (tag : ℕ) (r : List ℕ) (o : OptionLength) (k : ℕ) → length_option o ≡ size_in (entry_in tag r) → o ≡ Length k
-    → (3 + k ≤ length r) × (entry_in tag r ≡ some (record { front = cut 3 k r; behind = drop (3 + k) r }))
-content_stands tag r o k e h = go (entry_in tag r) refl (sym (ap length_option h) ∙ e)
+pub content_stands : (tag : ℕ) (r : List ℕ) (o : Option ℕ) (k : ℕ) → o ≡ size_in (entry_in tag r) → o ≡ Some k
+    → (3 + k ≤ length r) × (entry_in tag r ≡ Some (record { front = cut 3 k r; behind = drop (3 + k) r }))
+content_stands tag r o k e h = go (entry_in tag r) refl (sym (h) ∙ e)
   where
-    go : (w : Option Split) → entry_in tag r ≡ w → some k ≡ size_in w
-        → (3 + k ≤ length r) × (w ≡ some (record { front = cut 3 k r; behind = drop (3 + k) r }))
-    go none p q = absurd (none_some (sym q))
-    go (some x) p q =
+    go : (w : Option Split) → entry_in tag r ≡ w → Some k ≡ size_in w
+        → (3 + k ≤ length r) × (w ≡ Some (record { front = cut 3 k r; behind = drop (3 + k) r }))
+    go None p q = absurd (none_some (sym q))
+    go (Some x) p q =
         let s = entry_stands tag r x p in
         let w : length x.front ≡ k = some_is (sym q) in
         let f : x.front ≡ cut 3 k r = s.front ∙ ap (λ (n : ℕ). cut 3 n r) w in
         let b : x.behind ≡ drop (3 + k) r = s.behind ∙ ap (λ (n : ℕ). drop (3 + n) r) w in
-        (omega (arith, s.room), ap₂ (λ (f b : List ℕ). some (record { front = f; behind = b })) f b)
+        (omega (arith, s.room), ap₂ (λ (f b : List ℕ). Some (record { front = f; behind = b })) f b)
 
 -- ---- an entry whose content is a number
 
-module _ (tag w least most : ℕ) (r : List ℕ) (o : OptionLength) (e : length_option o ≡ size_in (entry_in tag r)) where
-  pub number_none : o ≡ NoLength → none ≡ value_in (number_in tag w least most r)
+module _ (tag w least most : ℕ) (r : List ℕ) (o : Option ℕ) (e : o ≡ size_in (entry_in tag r)) where
+  pub number_none : o ≡ None → None ≡ value_in (number_in tag w least most r)
   unfolding number_in
-  number_none h = go (entry_in tag r) (sym (ap length_option h) ∙ e)
+  number_none h = go (entry_in tag r) (sym (h) ∙ e)
     where
-      go : (x : Option Split) → none ≡ size_in x
-          → none ≡ value_in (x >>= λ e. numbered (eqb (length e.front) w && within least most (val e.front)) e)
-      go none q = refl
-      go (some x) q = absurd (none_some q)
+      go : (x : Option Split) → None ≡ size_in x
+          → None ≡ value_in (x >>= λ e. numbered (eqb (length e.front) w && within least most (val e.front)) e)
+      go None q = refl
+      go (Some x) q = absurd (none_some q)
 
-  module _ (k : ℕ) (h : o ≡ Length k) where
+  module _ (k : ℕ) (h : o ≡ Some k) where
     -- what is tested of it
     number_tests : number_in tag w least most r
         ≡ numbered (eqb k w && within least most (val (cut 3 k r))) (record { front = cut 3 k r; behind = drop (3 + k) r })
@@ -185,7 +181,7 @@ module _ (tag w least most : ℕ) (r : List ℕ) (o : OptionLength) (e : length_
         (ap (λ (n : ℕ). numbered (eqb n w && within least most (val (cut 3 k r))) (record { front = cut 3 k r; behind = drop (3 + k) r }))
         (length_cut 3 k r s.0))
 
-    pub number_other : (k ≡ w → ⊥) → none ≡ value_in (number_in tag w least most r)
+    pub number_other : (k ≡ w → ⊥) → None ≡ value_in (number_in tag w least most r)
     number_other q =
         sym (ap value_in number_tests
         ∙ ap (λ (t : Bool). value_in (numbered (t && within least most (val (cut 3 k r))) (record { front = cut 3 k r; behind = drop (3 + k) r })))
@@ -195,31 +191,31 @@ module _ (tag w least most : ℕ) (r : List ℕ) (o : OptionLength) (e : length_
     number_room q = let s = (content_stands tag r o k e h).0 in omega arith
 
     module _ (x : ℕ) (q : k ≡ w) (f : x ≡ val (cut 3 w r)) where
-      tested : value_in (number_in tag w least most r) ≡ cond (within least most x) (some x) none
+      tested : value_in (number_in tag w least most r) ≡ cond (within least most x) (Some x) None
       tested =
           ap value_in number_tests
           ∙ ap (λ (t : Bool). value_in (numbered (t && within least most (val (cut 3 k r))) found)) (eq-eqb k w q)
           ∙ cases (within least most (val (cut 3 k r)))
-          ∙ ap (λ (y : ℕ). cond (within least most y) (some y) none) (ap (λ (n : ℕ). val (cut 3 n r)) q ∙ sym f)
+          ∙ ap (λ (y : ℕ). cond (within least most y) (Some y) None) (ap (λ (n : ℕ). val (cut 3 n r)) q ∙ sym f)
         where
           found : Split
           found = record { front = cut 3 k r; behind = drop (3 + k) r }
 
-          cases : (t : Bool) → value_in (numbered t found) ≡ cond t (some (val (cut 3 k r))) none
+          cases : (t : Bool) → value_in (numbered t found) ≡ cond t (Some (val (cut 3 k r))) None
           cases true = refl
           cases false = refl
 
-      pub number_below : x < least → none ≡ value_in (number_in tag w least most r)
+      pub number_below : x < least → None ≡ value_in (number_in tag w least most r)
       number_below g = sym (tested ∙ rw (lt-leb least x g))
 
-      pub number_above : least ≤ x → most < x → none ≡ value_in (number_in tag w least most r)
+      pub number_above : least ≤ x → most < x → None ≡ value_in (number_in tag w least most r)
       number_above g j = sym (tested ∙ rw (le-leb least x g, lt-leb x most j))
 
-      pub number_is : least ≤ x → x ≤ most → some x ≡ value_in (number_in tag w least most r)
+      pub number_is : least ≤ x → x ≤ most → Some x ≡ value_in (number_in tag w least most r)
       number_is g j = sym (tested ∙ rw (le-leb least x g, le-leb x most j))
 
 -- what such an entry is, by places
-pub number_behind : (tag w least most : ℕ) (r : List ℕ) (n : Number) → number_in tag w least most r ≡ some n
+pub number_behind : (tag w least most : ℕ) (r : List ℕ) (n : Number) → number_in tag w least most r ≡ Some n
     → (3 + w ≤ length r) × (n.behind ≡ drop (3 + w) r)
 unfolding number_in
 number_behind tag w least most r n h =
@@ -230,23 +226,23 @@ number_behind tag w least most r n h =
     eqb-true (length e.front) w (both_true (eqb (length e.front) w) (within least most (val e.front)) t.0).0 in
     (omega (arith, s.room), t.1 ∙ s.behind ∙ ap (λ (n : ℕ). drop (3 + n) r) l)
   where
-    passed : (t : Bool) (e : Split) → numbered t e ≡ some n → (t ≡ true) × (n.behind ≡ e.behind)
+    passed : (t : Bool) (e : Split) → numbered t e ≡ Some n → (t ≡ true) × (n.behind ≡ e.behind)
     passed true e q = (refl, ap (λ (n : Number). n.behind) (sym (some_is q)))
     passed false e q = absurd (none_some q)
 
 -- all that the code keeps of it is the number
-pub number_stands : (tag w least most : ℕ) (r : List ℕ) (o : OptionNumber) (x : ℕ) → number_option o ≡ value_in (number_in tag w least most r)
-    → o ≡ option_number.Number x → (3 + w ≤ length r) × (number_in tag w least most r ≡ some (record { value = x; behind = drop (3 + w) r }))
-number_stands tag w least most r o x e h = go (number_in tag w least most r) refl (sym (ap number_option h) ∙ e)
+pub number_stands : (tag w least most : ℕ) (r : List ℕ) (o : Option ℕ) (x : ℕ) → o ≡ value_in (number_in tag w least most r)
+    → o ≡ Some x → (3 + w ≤ length r) × (number_in tag w least most r ≡ Some (record { value = x; behind = drop (3 + w) r }))
+number_stands tag w least most r o x e h = go (number_in tag w least most r) refl (sym (h) ∙ e)
   where
-    go : (y : Option Number) → number_in tag w least most r ≡ y → some x ≡ value_in y
-        → (3 + w ≤ length r) × (y ≡ some (record { value = x; behind = drop (3 + w) r }))
-    go none p q = absurd (none_some (sym q))
-    go (some n) p q =
+    go : (y : Option Number) → number_in tag w least most r ≡ y → Some x ≡ value_in y
+        → (3 + w ≤ length r) × (y ≡ Some (record { value = x; behind = drop (3 + w) r }))
+    go None p q = absurd (none_some (sym q))
+    go (Some n) p q =
         let b = number_behind tag w least most r n p in
-        (b.0, ap₂ (λ (v : ℕ) (b : List ℕ). some (record { value = v; behind = b })) (some_is (sym q)) b.1)
+        (b.0, ap₂ (λ (v : ℕ) (b : List ℕ). Some (record { value = v; behind = b })) (some_is (sym q)) b.1)
 
 -- a part that such entries may stand in
-pub number_room_at : (tag w least most : ℕ) (r : List ℕ) (o : OptionNumber) (x : ℕ) → number_option o ≡ value_in (number_in tag w least most r)
-    → o ≡ option_number.Number x → 3 + w ≤ length r
+pub number_room_at : (tag w least most : ℕ) (r : List ℕ) (o : Option ℕ) (x : ℕ) → o ≡ value_in (number_in tag w least most r)
+    → o ≡ Some x → 3 + w ≤ length r
 number_room_at tag w least most r o x e h = (number_stands tag w least most r o x e h).0

@@ -1,43 +1,34 @@
 -- A committer by its place in any record: each of the ways out, and that its name ends in the record. Assumes nothing.
+use Rattle.std.specs.Prelude.{Result, Ok, Err}
 use mathlib.Core.Path.{◌≡◌, refl, sym, ap, ◌∙◌}
 use mathlib.Core.Bool.{Bool, true, false, cond}
-use mathlib.Core.List.{List, []}
+use mathlib.Core.List.{List}
 use Prim.Native.Nat.{ℕ, ◌+◌, ◌-◌, ◌≤◌, ◌<◌}
 use native.Mathlib.Omega.{arith}
 use lib.ListN.{length}
 use lib.Dec.{ltb}
-use borrow.Author.Tests.{ltb-true, lt-ltb, le-ltb}
+use borrow.Author.Tests.{ltb-true, lt-ltb}
 use Rattle.word.specs.Be.{cut, val}
 use Rattle.word.proofs.Cut.{length_cut}
 use Rattle.model.specs.declared.Refusal.{Refusal}
-use Rattle.model.specs.declared.Refusal.TheVariants.{MalformedRecord, UnknownVersion, NothingThere}
-use Rattle.model.specs.Outcome.{Outcome}
-use Rattle.model.specs.Outcome.Outcome.{refuse, pass}
-use Rattle.model.proofs.Binds.{refuse_pass, refuse_is, pass_is}
+use Rattle.model.specs.declared.Refusal.TheVariants.{NothingThere}
+use Rattle.model.proofs.Binds.{refuse_pass, pass_is}
 use Rattle.settings.specs.Format.{Committer, Settings, read}
 use Rattle.settings.specs.Lent.{name_in}
 use Rattle.settings.proofs.Whole.{list_stands}
 use Rattle.reader.specs.declared.Summary.{Summary}
-use Rattle.reader.specs.declared.Reading.{Reading}
-use Rattle.reader.specs.declared.Reading.TheVariants.{Unknown, Malformed, Read}
 use Rattle.reader.specs.declared.Stretch.{Stretch}
-use Rattle.reader.specs.declared.Finding.{Finding}
-use Rattle.reader.specs.declared.Finding.TheVariants as finding
-use Rattle.reader.specs.Reading.{summary_of, told, reading_outcome, committers_of, placed, content_at, Lists, from_first, stretch_of, committer_found, finding_outcome, stretch_in}
+use Rattle.reader.specs.Reading.{summary_of, told, committers_of, placed, content_at, Lists, from_first, stretch_of, committer_found}
 use Rattle.reader.proofs.Places.{place_room}
 
 -- what was told was read
-refused_told : (x : Refusal) (w : Outcome Settings) → refuse x ≡ told w → w ≡ refuse x
-refused_told x (refuse y) e = ap refuse (sym (refuse_is e))
-refused_told x (pass s) e = absurd (refuse_pass e)
-
-passed_told : (m : Summary) (w : Outcome Settings) → pass m ≡ told w → (s : Settings) × (w ≡ pass s) × (m ≡ summary_of s)
-passed_told m (refuse y) e = absurd (refuse_pass (sym e))
-passed_told m (pass s) e = (s, refl, pass_is e)
+passed_told : (m : Summary) (w : Result Settings Refusal) → Ok m ≡ told w → (s : Settings) × (w ≡ Ok s) × (m ≡ summary_of s)
+passed_told m (Err y) e = absurd (refuse_pass (sym e))
+passed_told m (Ok s) e = (s, refl, pass_is e)
 
 -- ---- a committer of a record that was read
 
-module _ (known : ℕ) (r : List ℕ) (s : Settings) (e : read known r ≡ pass s) where
+module _ (known : ℕ) (r : List ℕ) (s : Settings) (e : read known r ≡ Ok s) where
   its_list : committers_of 16 0 (content_at r) ≡ s.committers
   unfolding committers_of
   its_list = rw (list_stands known r s e).2
@@ -61,26 +52,10 @@ module _ (known : ℕ) (r : List ℕ) (s : Settings) (e : read known r ≡ pass 
 
 -- ---- reading one
 
-module _ (known i : ℕ) (r : List ℕ) (o : Reading) (e : reading_outcome o ≡ told (read known r)) where
-  refused_so : (x : Refusal) → reading_outcome o ≡ refuse x → refuse x ≡ committer_found i (read known r)
-  refused_so x h = sym (ap (committer_found i) (refused_told x (read known r) (sym h ∙ e)))
-
-  pub found_unknown : o ≡ Unknown → refuse UnknownVersion ≡ committer_found i (read known r)
-  found_unknown h = refused_so UnknownVersion (ap reading_outcome h)
-
-  pub found_malformed : o ≡ Malformed → refuse MalformedRecord ≡ committer_found i (read known r)
-  found_malformed h = refused_so MalformedRecord (ap reading_outcome h)
-
-  module _ (m : Summary) (h : o ≡ Read m) where
-    was_read : (s : Settings) × (read known r ≡ pass s) × (m ≡ summary_of s)
-    was_read = passed_told m (read known r) (sym (ap reading_outcome h) ∙ e)
-
-    pub found_none : m.committers ≤ i → refuse NothingThere ≡ committer_found i (read known r)
-    found_none l =
-        let s = was_read in
-        let n : m.committers ≡ length s.0.committers = ap (λ (m : Summary). m.committers) s.2 in
-        let q : length s.0.committers ≤ i = omega arith in
-        sym (ap (committer_found i) s.1 ∙ ap (λ (t : Bool). cond t (pass (stretch_of i s.0)) (refuse NothingThere)) (le-ltb i (length s.0.committers) q))
+module _ (known i : ℕ) (r : List ℕ) (o : (Result Summary Refusal)) (e : o ≡ told (read known r)) where
+  module _ (m : Summary) (h : o ≡ Ok m) where
+    was_read : (s : Settings) × (read known r ≡ Ok s) × (m ≡ summary_of s)
+    was_read = passed_told m (read known r) (sym (h) ∙ e)
 
     module _ (l : i < m.committers) where
       pub found_lists : Lists i r
@@ -89,35 +64,23 @@ module _ (known i : ℕ) (r : List ℕ) (o : Reading) (e : reading_outcome o ≡
           let n : m.committers ≡ length s.0.committers = ap (λ (m : Summary). m.committers) s.2 in
           its_place known r s.0 s.1 i (omega arith)
 
-      pub found_is : (f : Stretch) → f ≡ from_first (placed i (committers_of 16 0 (content_at r))) → pass f ≡ committer_found i (read known r)
+      pub found_is : (f : Stretch) → f ≡ from_first (placed i (committers_of 16 0 (content_at r))) → Ok f ≡ committer_found i (read known r)
       found_is f g =
           let s = was_read in
           let n : m.committers ≡ length s.0.committers = ap (λ (m : Summary). m.committers) s.2 in
           let q : i < length s.0.committers = omega arith in
-          ap pass (g ∙ ap (λ (cs : List Committer). from_first (placed i cs)) (its_list known r s.0 s.1))
-          ∙ sym (ap (committer_found i) s.1 ∙ ap (λ (t : Bool). cond t (pass (stretch_of i s.0)) (refuse NothingThere)) (lt-ltb i (length s.0.committers) q))
+          ap Ok (g ∙ ap (λ (cs : List Committer). from_first (placed i cs)) (its_list known r s.0 s.1))
+          ∙ sym (ap (committer_found i) s.1 ∙ ap (λ (t : Bool). cond t (Ok (stretch_of i s.0)) (Err NothingThere)) (lt-ltb i (length s.0.committers) q))
 
 -- ---- its name as a part
 
-module _ (known i : ℕ) (r : List ℕ) (o : Finding) (e : finding_outcome o ≡ committer_found i (read known r)) where
-  no_part : (x : Refusal) → finding_outcome o ≡ refuse x → [] ≡ stretch_in (committer_found i (read known r)) r
-  no_part x h = ap (λ (w : Outcome Stretch). stretch_in w r) (sym h ∙ e)
-
-  pub part_unknown : o ≡ finding.Unknown → [] ≡ stretch_in (committer_found i (read known r)) r
-  part_unknown h = no_part UnknownVersion (ap finding_outcome h)
-
-  pub part_malformed : o ≡ finding.Malformed → [] ≡ stretch_in (committer_found i (read known r)) r
-  part_malformed h = no_part MalformedRecord (ap finding_outcome h)
-
-  pub part_none : o ≡ finding.NoPlace → [] ≡ stretch_in (committer_found i (read known r)) r
-  part_none h = no_part NothingThere (ap finding_outcome h)
-
-  module _ (f : Stretch) (h : o ≡ finding.Found f) where
+module _ (known i : ℕ) (r : List ℕ) (o : (Result Stretch Refusal)) (e : o ≡ committer_found i (read known r)) where
+  module _ (f : Stretch) (h : o ≡ Ok f) where
     pub part_room : f.at + f.length ≤ length r
-    part_room = go (read known r) refl (sym (ap finding_outcome h) ∙ e)
+    part_room = go (read known r) refl (sym (h) ∙ e)
       where
-        there : (s : Settings) → read known r ≡ pass s → (t : Bool) → ltb i (length s.committers) ≡ t
-            → pass f ≡ cond t (pass (stretch_of i s)) (refuse NothingThere) → f.at + f.length ≤ length r
+        there : (s : Settings) → read known r ≡ Ok s → (t : Bool) → ltb i (length s.committers) ≡ t
+            → Ok f ≡ cond t (Ok (stretch_of i s)) (Err NothingThere) → f.at + f.length ≤ length r
         there s p true b q =
             let w : f ≡ stretch_of i s = pass_is q in
             let a : f.at ≡ (stretch_of i s).at = ap (λ (f : Stretch). f.at) w in
@@ -126,11 +89,6 @@ module _ (known i : ℕ) (r : List ℕ) (o : Finding) (e : finding_outcome o ≡
             omega arith
         there s p false b q = absurd (refuse_pass (sym q))
 
-        go : (w : Outcome Settings) → read known r ≡ w → pass f ≡ committer_found i w → f.at + f.length ≤ length r
-        go (refuse x) p q = absurd (refuse_pass (sym q))
-        go (pass s) p q = there s p (ltb i (length s.committers)) refl q
-
-    pub part_is : cut f.at (f.at + f.length - f.at) r ≡ stretch_in (committer_found i (read known r)) r
-    part_is =
-        let w : f.at + f.length - f.at ≡ f.length = omega arith in
-        ap (λ (n : ℕ). cut f.at n r) w ∙ ap (λ (w : Outcome Stretch). stretch_in w r) (sym (ap finding_outcome h) ∙ e)
+        go : (w : Result Settings Refusal) → read known r ≡ w → Ok f ≡ committer_found i w → f.at + f.length ≤ length r
+        go (Err x) p q = absurd (refuse_pass (sym q))
+        go (Ok s) p q = there s p (ltb i (length s.committers)) refl q

@@ -1,8 +1,7 @@
 -- A committer by its place in a list: the first, and one of those behind it. Assumes nothing.
+use Rattle.std.specs.Prelude.{Option, Some, None, unwrap_or}
 use mathlib.Core.Path.{◌≡◌, refl, sym, ap, ap₂, ◌∙◌}
 use mathlib.Core.List.{List, [], ◌∷◌}
-use mathlib.Core.Option
-use mathlib.Core.Option.{Option, none, some}
 use Prim.Native.Nat.{ℕ, zero, suc, ◌+◌, ◌-◌, ◌≤◌, ◌<◌}
 use native.Mathlib.Omega.{arith}
 use lib.ListN.{length, get_or, drop, length-drop}
@@ -34,11 +33,11 @@ chain zero last (b ∷ r) h = absurd (omega arith)
 chain (suc k) last [] h = absurd (omega arith)
 chain (suc k) last (b ∷ r) h = go (committer_in last (b ∷ r)) refl h
   where
-    ends : (first : Named) → committer_in last (b ∷ r) ≡ some first
+    ends : (first : Named) → committer_in last (b ∷ r) ≡ Some first
         → (w : Option (List Committer)) → committers_in k first.committer.number first.behind ≡ w
-        → 0 < length (Option.get_or (w >>= λ others. some (first.committer ∷ others)) []) → Chain (suc k) last (b ∷ r)
-    ends first p none q h = absurd (omega arith)
-    ends first p (some others) q h = record {
+        → 0 < length (unwrap_or (w >>= λ others. Some (first.committer ∷ others)) []) → Chain (suc k) last (b ∷ r)
+    ends first p None q h = absurd (omega arith)
+    ends first p (Some others) q h = record {
       first = first;
       others = others;
       room = omega arith;
@@ -46,14 +45,14 @@ chain (suc k) last (b ∷ r) h = go (committer_in last (b ∷ r)) refl h
       whole = rw (p, q);
       rest =
           let e : suc k - 1 ≡ k = omega arith in
-          ap (λ (k : ℕ). Option.get_or (committers_in k first.committer.number first.behind) []) e ∙ rw q;
+          ap (λ (k : ℕ). unwrap_or (committers_in k first.committer.number first.behind) []) e ∙ rw q;
     }
 
     go : (y : Option Named) → committer_in last (b ∷ r) ≡ y
-        → 0 < length (Option.get_or (y >>= λ first. committers_in k first.committer.number first.behind >>= λ others. some (first.committer ∷ others)) [])
+        → 0 < length (unwrap_or (y >>= λ first. committers_in k first.committer.number first.behind >>= λ others. Some (first.committer ∷ others)) [])
         → Chain (suc k) last (b ∷ r)
-    go none p h = absurd (omega arith)
-    go (some first) p h = ends first p (committers_in k first.committer.number first.behind) refl h
+    go None p h = absurd (omega arith)
+    go (Some first) p h = ends first p (committers_in k first.committer.number first.behind) refl h
 
 -- ---- what stands where
 

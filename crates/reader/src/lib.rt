@@ -3,43 +3,19 @@
 
 ghost use Rattle.std.specs.Prelude.{◌≡◌, ◌<◌, ◌≤◌, length, drop};
 ghost use Rattle.settings.specs.Format.{has_site, entry_in, number_in, committer_in, committers_in, site_in, entries_in, settings_in, read};
-ghost use Rattle.reader.specs.Reading.{length_option, number_option, size_in, value_in, heading_in, heading_option, count_in, tail_in};
-ghost use Rattle.reader.specs.Reading.{tail_option, summary_in, summary_option, told, reading_outcome, committers_of, placed};
-ghost use Rattle.reader.specs.Reading.{committer_found, finding_outcome, stretch_in, Lists, content_at, from_first};
+ghost use Rattle.reader.specs.Reading.{size_in, value_in, heading_in, count_in, tail_in};
+ghost use Rattle.reader.specs.Reading.{summary_in, told, committers_of, placed};
+ghost use Rattle.reader.specs.Reading.{committer_found, stretch_in, Lists, content_at, from_first};
 
-use model::WriteReflog;
+use model::{Refusal, WriteReflog};
 use settings::{Heading, Record, Site, Tag};
 use transaction::PackedRefs;
-
-#[derive(Clone, Copy)]
-pub enum OptionLength {
-    NoLength,
-    Length(usize),
-}
-
-#[derive(Clone, Copy)]
-pub enum OptionNumber {
-    NoNumber,
-    Number(u64),
-}
-
-#[derive(Clone, Copy)]
-pub enum OptionHeading {
-    NoHeading,
-    Heading(Heading),
-}
 
 // What stands behind the settings of one byte: how many committers, and the site.
 #[derive(Clone, Copy)]
 pub struct Tail {
     pub committers: u64,
     pub site: u64,
-}
-
-#[derive(Clone, Copy)]
-pub enum OptionTail {
-    NoTail,
-    Tail(Tail),
 }
 
 // What reading a record tells.
@@ -51,19 +27,6 @@ pub struct Summary {
     pub committers: u64,
 }
 
-#[derive(Clone, Copy)]
-pub enum OptionSummary {
-    NoSummary,
-    Summary(Summary),
-}
-
-#[derive(Clone, Copy)]
-pub enum Reading {
-    Unknown,
-    Malformed,
-    Read(Summary),
-}
-
 // A committer's number, and where its name stands.
 #[derive(Clone, Copy)]
 pub struct Stretch {
@@ -72,218 +35,175 @@ pub struct Stretch {
     pub length: usize,
 }
 
-#[derive(Clone, Copy)]
-pub enum Finding {
-    Unknown,
-    Malformed,
-    NoPlace,
-    Found(Stretch),
-}
-
 // ---- entries
 
 // How long the content is of the entry that a part begins with, if it has this tag and stands in the part whole.
-fn content_of(part: &[u8], tag: u64) -> OptionLength
-    ensures { length_option result ≡ size_in (entry_in tag part.now) }
+fn content_of(part: &[u8], tag: u64) -> Option<usize>
+    ensures { result ≡ size_in (entry_in tag part.now) }
 {
     if part.len() < Tag::CONTENT {
-        return OptionLength::NoLength;
+        return None;
     }
     let rest = word::get_at(part, 0, 2) as usize;
     if rest == 0 {
-        return OptionLength::NoLength;
+        return None;
     }
     if part.len() - Tag::AT < rest {
-        return OptionLength::NoLength;
+        return None;
     }
     if word::get_at(part, Tag::AT, 1) != tag {
-        return OptionLength::NoLength;
+        return None;
     }
-    OptionLength::Length(rest - 1)
+    Some(rest - 1)
 }
 
 // The number that is the content of such an entry, if it is as wide and within bounds.
-fn number_in(part: &[u8], tag: u64, width: usize, least: u64, most: u64) -> OptionNumber
+fn number_in(part: &[u8], tag: u64, width: usize, least: u64, most: u64) -> Option<u64>
     requires { width ≤ 8 }
-    ensures { number_option result ≡ value_in (number_in tag width least most part.now) }
+    ensures { result ≡ value_in (number_in tag width least most part.now) }
 {
-    let OptionLength::Length(length) = content_of(part, tag) else {
-        return OptionNumber::NoNumber;
-    };
+    let length = content_of(part, tag)?;
     if length != width {
-        return OptionNumber::NoNumber;
+        return None;
     }
     let value = word::get_at(part, Tag::CONTENT, width);
     if value < least {
-        return OptionNumber::NoNumber;
+        return None;
     }
     if value > most {
-        return OptionNumber::NoNumber;
+        return None;
     }
-    OptionNumber::Number(value)
+    Some(value)
 }
 
 // ---- committers
 
 // The committer that a list begins with, behind one with the number `last`.
-fn heading_in(list: &[u8], last: u64) -> OptionHeading
-    ensures { heading_option result ≡ heading_in (committer_in last list.now) }
+fn heading_in(list: &[u8], last: u64) -> Option<Heading>
+    ensures { result ≡ heading_in (committer_in last list.now) }
 {
     if list.len() < Heading::NAME {
-        return OptionHeading::NoHeading;
+        return None;
     }
     let number = word::get_at(list, 0, 2);
     if number <= last {
-        return OptionHeading::NoHeading;
+        return None;
     }
     let length = word::get_at(list, Heading::LENGTH_AT, 1) as usize;
     if length == 0 {
-        return OptionHeading::NoHeading;
+        return None;
     }
     if length > Heading::LONGEST {
-        return OptionHeading::NoHeading;
+        return None;
     }
     if list.len() - Heading::NAME < length {
-        return OptionHeading::NoHeading;
+        return None;
     }
-    OptionHeading::Heading(Heading {
-        number: number,
-        length: length,
-    })
+    Some(Heading { number, length })
 }
 
 // How many committers a list has, if it is well formed and has room for them.
-fn count_committers(list: &[u8], room: usize, last: u64) -> OptionLength
-    ensures { length_option result ≡ count_in (committers_in room last list.now) }
+fn count_committers(list: &[u8], room: usize, last: u64) -> Option<usize>
+    ensures { result ≡ count_in (committers_in room last list.now) }
 {
     if list.len() == 0 {
-        return OptionLength::Length(0);
+        return Some(0);
     }
     if room == 0 {
-        return OptionLength::NoLength;
+        return None;
     }
-    let OptionHeading::Heading(first) = heading_in(list, last) else {
-        return OptionLength::NoLength;
-    };
+    let first = heading_in(list, last)?;
     let behind = Heading::NAME + first.length;
-    let OptionLength::Length(others) = count_committers(&list[behind..], room - 1, first.number)
-    else {
-        return OptionLength::NoLength;
-    };
-    OptionLength::Length(others + 1)
+    let others = count_committers(&list[behind..], room - 1, first.number)?;
+    Some(others + 1)
 }
 
 // ---- the record
 
 // The site, which is the last entry of version 2, and 0 in version 1. Nothing stands behind it.
-fn site_in(part: &[u8], version: u64) -> OptionNumber
-    ensures { number_option result ≡ site_in (has_site version) part.now }
+fn site_in(part: &[u8], version: u64) -> Option<u64>
+    ensures { result ≡ site_in (has_site version) part.now }
 {
     if version != Record::VERSION_2 {
         if part.len() == 0 {
-            return OptionNumber::Number(Site::NONE);
+            return Some(Site::NONE);
         }
-        return OptionNumber::NoNumber;
+        return None;
     }
     if part.len() != Tag::CONTENT + Site::WIDTH {
-        return OptionNumber::NoNumber;
+        return None;
     }
     number_in(part, Tag::SITE, Site::WIDTH, 0, Site::MOST)
 }
 
 // The committers' entry, and what stands behind it.
-fn tail_in(part: &[u8], version: u64) -> OptionTail
-    ensures { tail_option result ≡ tail_in version part.now }
+fn tail_in(part: &[u8], version: u64) -> Option<Tail>
+    ensures { result ≡ tail_in version part.now }
 {
-    let OptionLength::Length(length) = content_of(part, Tag::COMMITTERS) else {
-        return OptionTail::NoTail;
-    };
+    let length = content_of(part, Tag::COMMITTERS)?;
     let behind = Tag::CONTENT + length;
-    let OptionLength::Length(count) = count_committers(
-        &part[Tag::CONTENT..behind],
-        Heading::LIMIT,
-        0,
-    ) else {
-        return OptionTail::NoTail;
-    };
-    let OptionNumber::Number(site) = site_in(&part[behind..], version) else {
-        return OptionTail::NoTail;
-    };
-    OptionTail::Tail(Tail {
+    let count = count_committers(&part[Tag::CONTENT..behind], Heading::LIMIT, 0)?;
+    let site = site_in(&part[behind..], version)?;
+    Some(Tail {
         committers: count as u64,
-        site: site,
+        site,
     })
 }
 
 // All entries, by rising tag.
-fn entries_in(part: &[u8], version: u64) -> OptionSummary
-    ensures { summary_option result ≡ summary_in (entries_in version part.now) }
+fn entries_in(part: &[u8], version: u64) -> Option<Summary>
+    ensures { result ≡ summary_in (entries_in version part.now) }
 {
-    let OptionNumber::Number(log) = number_in(
-        part,
-        Tag::LOG,
-        1,
-        WriteReflog::DISABLE,
-        WriteReflog::ALWAYS,
-    ) else {
-        return OptionSummary::NoSummary;
-    };
+    let log = number_in(part, Tag::LOG, 1, WriteReflog::DISABLE, WriteReflog::ALWAYS)?;
     let behind = &part[Tag::OF_BYTE..];
-    let OptionNumber::Number(mode) = number_in(
+    let mode = number_in(
         behind,
         Tag::MODE,
         1,
         PackedRefs::DELETIONS_ONLY,
         PackedRefs::DELETIONS_AND_NON_SYMBOLIC_UPDATES_REMOVE_LOOSE_SOURCE_REFERENCE,
-    ) else {
-        return OptionSummary::NoSummary;
-    };
-    let OptionTail::Tail(tail) = tail_in(&behind[Tag::OF_BYTE..], version) else {
-        return OptionSummary::NoSummary;
-    };
-    OptionSummary::Summary(Summary {
-        log: log,
-        mode: mode,
+    )?;
+    let tail = tail_in(&behind[Tag::OF_BYTE..], version)?;
+    Some(Summary {
+        log,
+        mode,
         site: tail.site,
         committers: tail.committers,
     })
 }
 
 // What stands behind the version: the length of the rest, which is exact, and the entries.
-fn settings_in(bytes: &[u8], version: u64) -> OptionSummary
-    ensures { summary_option result ≡ summary_in (settings_in version (drop 1 bytes.now)) }
+fn settings_in(bytes: &[u8], version: u64) -> Option<Summary>
+    ensures { result ≡ summary_in (settings_in version (drop 1 bytes.now)) }
 {
     if bytes.len() < Record::ENTRIES {
-        return OptionSummary::NoSummary;
+        return None;
     }
     let rest = word::get_at(bytes, Record::LENGTH_AT, 2) as usize;
     if Record::ENTRIES + rest != bytes.len() {
-        return OptionSummary::NoSummary;
+        return None;
     }
     entries_in(&bytes[Record::ENTRIES..], version)
 }
 
 // Reads a record, as a reader that knows versions up to the one given: 1 or 2.
-pub fn read(bytes: &[u8], known: u64) -> Reading
-    ensures { reading_outcome result ≡ told (read known bytes.now) }
+pub fn read(bytes: &[u8], known: u64) -> Result<Summary, Refusal>
+    ensures { result ≡ told (read known bytes.now) }
 {
     if !settings::is_version(known) {
-        return Reading::Unknown;
+        return Err(Refusal::UnknownVersion);
     }
     if bytes.len() == 0 {
-        return Reading::Malformed;
+        return Err(Refusal::MalformedRecord);
     }
     let version = word::get_at(bytes, Record::VERSION_AT, 1);
     if !settings::is_version(version) {
-        return Reading::Unknown;
+        return Err(Refusal::UnknownVersion);
     }
     if version > known {
-        return Reading::Unknown;
+        return Err(Refusal::UnknownVersion);
     }
-    let OptionSummary::Summary(summary) = settings_in(bytes, version) else {
-        return Reading::Malformed;
-    };
-    Reading::Read(summary)
+    settings_in(bytes, version).ok_or(Refusal::MalformedRecord)
 }
 
 // ---- a committer by place
@@ -297,9 +217,9 @@ fn committer_from(list: &[u8], place: usize, room: usize, last: u64) -> Stretch
     let length = word::get_at(list, Heading::LENGTH_AT, 1) as usize;
     if place == 0 {
         return Stretch {
-            number: number,
+            number,
             at: Heading::NAME,
-            length: length,
+            length,
         };
     }
     let behind = Heading::NAME + length;
@@ -327,35 +247,22 @@ fn committer_at(bytes: &[u8], place: usize) -> Stretch
 }
 
 // The committer at a place of any record: its number, and the stretch of the record that its name is.
-pub fn read_committer(bytes: &[u8], known: u64, place: u64) -> Finding
-    ensures { finding_outcome result ≡ committer_found place (read known bytes.now) }
+pub fn read_committer(bytes: &[u8], known: u64, place: u64) -> Result<Stretch, Refusal>
+    ensures { result ≡ committer_found place (read known bytes.now) }
 {
-    let reading = read(bytes, known);
-    match reading {
-        Reading::Unknown => Finding::Unknown,
-        Reading::Malformed => Finding::Malformed,
-        Reading::Read(summary) => {
-            if place >= summary.committers {
-                return Finding::NoPlace;
-            }
-            Finding::Found(committer_at(bytes, place as usize))
-        }
+    let summary = read(bytes, known)?;
+    if place >= summary.committers {
+        return Err(Refusal::NothingThere);
     }
+    Ok(committer_at(bytes, place as usize))
 }
 
 // The bytes of its name as that stretch of the record, not a copy; empty on a refusal.
 pub fn committer_name(bytes: &[u8], known: u64, place: u64) -> &[u8]
     ensures { result.now ≡ stretch_in (committer_found place (read known bytes.now)) bytes.now }
 {
-    let finding = read_committer(bytes, known, place);
-    match finding {
-        Finding::Unknown => &bytes[0..0],
-        Finding::Malformed => &bytes[0..0],
-        Finding::NoPlace => &bytes[0..0],
-        Finding::Found(found) => {
-            let at = found.at;
-            let end = at + found.length;
-            &bytes[at..end]
-        }
+    match read_committer(bytes, known, place) {
+        Ok(found) => &bytes[found.at..found.at + found.length],
+        Err(_) => &bytes[..0],
     }
 }

@@ -1,11 +1,11 @@
 -- A receiver collects a list of edits that arrives in fragments (2026-06): its one image, which bytes are a good receiver, what a
 -- fragment does and what closing does. Nothing here looks at a region.
-use Rattle.std.specs.Prelude.{◌≡◌, Bool, true, ◌&&◌, not, cond, List, [], ◌++◌, ℕ, ◌+◌, ◌-◌, ◌*◌, ◌≤◌, length, replicate, eqb, ltb}
+use Rattle.model.specs.declared.Refusal.{Refusal}
+use Rattle.std.specs.Prelude.{◌≡◌, Bool, true, ◌&&◌, not, cond, List, [], ◌++◌, ℕ, ◌+◌, ◌-◌, ◌*◌, ◌≤◌, length, replicate, eqb, ltb, Result, Ok, Err}
 use Rattle.word.specs.Be.{cut, val, be}
 use Rattle.word.specs.Tests.{same_list}
 use Rattle.model.specs.declared.Refusal.TheVariants.{BadRegion, ReceiverFull}
-use Rattle.model.specs.Outcome.{Outcome, ◌>>◌, refuse_if}
-use Rattle.model.specs.Outcome.Outcome.{refuse, pass}
+use Rattle.model.specs.Outcome.{◌>>◌, refuse_if}
 use Rattle.model.specs.Reply.{Call}
 use Rattle.model.specs.Reply.Call.{prepare}
 
@@ -36,19 +36,19 @@ is_receiver b = eqb (length b) receiver_size && same_list b (holding (held b))
 -- ---- what is done with it
 
 -- 1: a fresh one is made of any bytes of its size
-unfoldable pub freshened : List ℕ → Outcome (List ℕ)
-freshened b = cond (eqb (length b) receiver_size) (pass fresh) (refuse BadRegion)
+unfoldable pub freshened : List ℕ → Result (List ℕ) Refusal
+freshened b = cond (eqb (length b) receiver_size) (Ok fresh) (Err BadRegion)
 
 -- 1, then 26: a fragment, of any length, stands behind what is held, unless it is too much
-unfoldable pub taken : List ℕ → List ℕ → Outcome (List ℕ)
+unfoldable pub taken : List ℕ → List ℕ → Result (List ℕ) Refusal
 taken fragment b = do
   refuse_if (not (is_receiver b)) BadRegion
   refuse_if (ltb capacity (length (held b) + length fragment)) ReceiverFull
-  pass (holding (held b ++ fragment))
+  Ok (holding (held b ++ fragment))
 
 -- 1: closing makes the call prepare with what is held, whatever that is,
-unfoldable pub closing : List ℕ → ℕ → Outcome Call
-closing b mode = cond (is_receiver b) (pass (prepare (held b) mode)) (refuse BadRegion)
+unfoldable pub closing : List ℕ → ℕ → Result Call Refusal
+closing b mode = cond (is_receiver b) (Ok (prepare (held b) mode)) (Err BadRegion)
 
 -- and a fresh receiver follows, whatever prepare says; one that is not good stays as it is
 unfoldable pub closed : List ℕ → List ℕ

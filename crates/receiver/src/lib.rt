@@ -38,11 +38,7 @@ pub fn is_good(receiver: &[u8]) -> bool
         return false;
     }
     let count = count(receiver);
-    if count > Receiver::CAPACITY {
-        return false;
-    }
-    let end = Receiver::BYTES + count;
-    word::all_zero(&receiver[end..])
+    count <= Receiver::CAPACITY && word::all_zero(&receiver[Receiver::BYTES + count..])
 }
 
 // What it holds, as that part of it, not a copy.
@@ -59,7 +55,7 @@ pub fn make_fresh(receiver: &mut [u8])
     requires { length receiver.old ≡ receiver_size }
     ensures { receiver.new ≡ fresh }
 {
-    word::put_zeros(receiver);
+    receiver.fill(0);
 }
 
 // The bytes of a fragment for which there is room, behind what is held.
@@ -71,7 +67,7 @@ pub fn add(receiver: &mut [u8], fragment: &[u8])
     let count = count(receiver);
     let begin = Receiver::BYTES + count;
     let end = begin + fragment.len();
-    word::copy(&mut receiver[begin..end], fragment);
+    receiver[begin..end].copy_from_slice(fragment);
     let now = count + fragment.len();
     word::put_at(
         receiver,

@@ -1,4 +1,6 @@
 -- The calls on a receiver: what each of their ways out answers. Assumes nothing.
+use Rattle.std.specs.Prelude.{Result, Ok, Err}
+use Rattle.model.specs.declared.Refusal.{Refusal}
 use mathlib.Core.Path.{◌≡◌, refl, sym, ap, ◌∙◌}
 use mathlib.Core.Bool.{Bool, true, false, not}
 use mathlib.Core.List.{List, [], ◌∷◌, ◌++◌}
@@ -7,14 +9,12 @@ use native.Mathlib.Omega.{arith}
 use lib.ListN.{length, length-append}
 use borrow.Author.Tests.{eq-eqb, ne_eqb, lt-ltb, le-ltb, not-true, not-false}
 use Rattle.model.specs.declared.Refusal.TheVariants.{BadRegion, ReceiverFull}
-use Rattle.model.specs.Outcome.{Outcome}
-use Rattle.model.specs.Outcome.Outcome.{refuse, pass}
 use Rattle.model.specs.Reply.{Reply}
 use Rattle.model.specs.Reply.Reply.{refused}
 use Rattle.model.specs.Reply.Call.{prepare}
-use Rattle.model.specs.Numbers.{answer, answer_of, refusal_answer}
+use Rattle.model.specs.Numbers.{answer, answer_of}
 use Rattle.answers.specs.declared.Verdict.{Verdict}
-use Rattle.answers.specs.Answers.{answer_by}
+use Rattle.answers.specs.Answers.{answer_by, answered}
 use Rattle.receiver.specs.Receiver.{capacity, receiver_size, holding, fresh, held, is_receiver, freshened, taken, closing, closed, Good}
 use Rattle.receiver.proofs.Image.{held_holding, is_good, good_room}
 use Rattle.region.specs.Region.{name_offset}
@@ -43,35 +43,35 @@ module _ (b : List ℕ) (ok : Bool) (is : ok ≡ is_receiver b) (y : not ok ≡ 
 
 -- ---- whatever the receiver comes to is kept so
 
-kept_so : (c : ReceiverCall) (b b' : List ℕ) (v : Verdict) (o : Outcome (List ℕ)) → receiver_of c b ≡ o → answer_by v ≡ (kept_as c o b).answer
+kept_so : (c : ReceiverCall) (b b' : List ℕ) (v : Result Verdict Refusal) (o : Result (List ℕ) Refusal) → receiver_of c b ≡ o → answered v ≡ (kept_as c o b).answer
     → b' ≡ (kept_as c o b).buffer → Keeps v b' (received c b)
 unfolding received
 kept_so c b b' v o e a h = rw e (record { answer = a; buffer = h })
 
 -- ---- a fresh one
 
-pub fresh_size : (b : List ℕ) (v : Verdict) → (length b ≡ receiver_size → ⊥) → answer_by v ≡ answer 1 [] → Keeps v b (received fresh_receiver b)
-unfolding receiver_of freshened refusal_answer
-fresh_size b v h a = kept_so fresh_receiver b b v (refuse BadRegion) (rw (ne_eqb (length b) receiver_size h)) a refl
+pub fresh_size : (b : List ℕ) → (length b ≡ receiver_size → ⊥) → Keeps (Err BadRegion) b (received fresh_receiver b)
+unfolding receiver_of freshened
+fresh_size b h = kept_so fresh_receiver b b (Err BadRegion) (Err BadRegion) (rw (ne_eqb (length b) receiver_size h)) refl refl
 
 pub fresh_done : (b b' : List ℕ) (v : Verdict) → length b ≡ receiver_size → b' ≡ fresh → answer_by v ≡ answer 0 []
-    → Keeps v b' (received fresh_receiver b)
+    → Keeps (Ok v) b' (received fresh_receiver b)
 unfolding receiver_of freshened
-fresh_done b b' v h f a = kept_so fresh_receiver b b' v (pass fresh) (rw (eq-eqb (length b) receiver_size h)) a f
+fresh_done b b' v h f a = kept_so fresh_receiver b b' (Ok v) (Ok fresh) (rw (eq-eqb (length b) receiver_size h)) a f
 
 -- ---- a fragment
 
 module _ (f b : List ℕ) where
-  pub taken_bad : is_receiver b ≡ false → taken f b ≡ refuse BadRegion
+  pub taken_bad : is_receiver b ≡ false → taken f b ≡ Err BadRegion
   unfolding taken
   taken_bad e = rw e
 
   module _ (good : is_receiver b ≡ true) where
-    pub taken_full : capacity < length (held b) + length f → taken f b ≡ refuse ReceiverFull
+    pub taken_full : capacity < length (held b) + length f → taken f b ≡ Err ReceiverFull
     unfolding taken
     taken_full h = rw (good, lt-ltb capacity (length (held b) + length f) h)
 
-    pub taken_done : length (held b) + length f ≤ capacity → taken f b ≡ pass (holding (held b ++ f))
+    pub taken_done : length (held b) + length f ≤ capacity → taken f b ≡ Ok (holding (held b ++ f))
     unfolding taken
     taken_done h = rw (good, le-ltb capacity (length (held b) + length f) h)
 
@@ -79,30 +79,30 @@ module _ (f b : List ℕ) where
     pub held_then : length (held b) + length f ≤ capacity → held (holding (held b ++ f)) ≡ held b ++ f
     held_then h = held_holding (held b ++ f) (rw length-append h)
 
-module _ (f b : List ℕ) (v : Verdict) (ok : Bool) (is : ok ≡ is_receiver b) where
-  pub take_bad : not ok ≡ true → answer_by v ≡ answer 1 [] → Keeps v b (received (take_fragment f) b)
-  unfolding receiver_of refusal_answer
-  take_bad n a = kept_so (take_fragment f) b b v (refuse BadRegion) (taken_bad f b (sym is ∙ not-true ok n)) a refl
+module _ (f b : List ℕ) (ok : Bool) (is : ok ≡ is_receiver b) where
+  pub take_bad : not ok ≡ true → Keeps (Err BadRegion) b (received (take_fragment f) b)
+  unfolding receiver_of
+  take_bad n = kept_so (take_fragment f) b b (Err BadRegion) (Err BadRegion) (taken_bad f b (sym is ∙ not-true ok n)) refl refl
 
   module _ (y : not ok ≡ false) (p : List ℕ) (e : p ≡ held b) where
     good : is_receiver b ≡ true
     good = sym is ∙ not-false ok y
 
-    pub take_full : capacity - length p < length f → answer_by v ≡ answer 26 [] → Keeps v b (received (take_fragment f) b)
-    unfolding receiver_of refusal_answer
-    take_full h a =
-        let l : length p ≡ length (held b) = ap length e in
-        kept_so (take_fragment f) b b v (refuse ReceiverFull) (taken_full f b good (omega arith)) a refl
-
-    pub take_done : (b' : List ℕ) → length f ≤ capacity - length p → b' ≡ holding (held b ++ f) → answer_by v ≡ answer 0 ((length p + length f) ∷ [])
-        → Keeps v b' (received (take_fragment f) b)
+    pub take_full : capacity - length p < length f → Keeps (Err ReceiverFull) b (received (take_fragment f) b)
     unfolding receiver_of
-    take_done b' h i a =
+    take_full h =
+        let l : length p ≡ length (held b) = ap length e in
+        kept_so (take_fragment f) b b (Err ReceiverFull) (Err ReceiverFull) (taken_full f b good (omega arith)) refl refl
+
+    pub take_done : (b' : List ℕ) (v : Verdict) → length f ≤ capacity - length p → b' ≡ holding (held b ++ f) → answer_by v ≡ answer 0 ((length p + length f) ∷ [])
+        → Keeps (Ok v) b' (received (take_fragment f) b)
+    unfolding receiver_of
+    take_done b' v h i a =
         let l : length p ≡ length (held b) = ap length e in
         let r : length (held b) ≤ capacity = good_room b good in
         let s : length (held b) + length f ≤ capacity = omega arith in
         let t : length p + length f ≡ length (held (holding (held b ++ f))) = rw (held_then f b good s, length-append, l) in
-        kept_so (take_fragment f) b b' v (pass (holding (held b ++ f))) (taken_done f b good s)
+        kept_so (take_fragment f) b b' (Ok v) (Ok (holding (held b ++ f))) (taken_done f b good s)
         (a ∙ ap (λ (n : ℕ). answer 0 (n ∷ [])) t) i
 
 -- ---- closing
@@ -125,7 +125,7 @@ unfolding closed
 closed_good b e = rw e
 
 -- closing comes to this reply, and leaves this receiver
-closed_so : (b b' r r' : List ℕ) (mode : ℕ) (v : Verdict) (reply : Reply) → reply_to_closing b mode r ≡ reply → closed b ≡ b' → Replied v r r' reply → Closed v r r' b b' mode
+closed_so : (b b' r r' : List ℕ) (mode : ℕ) (v : Result Verdict Refusal) (reply : Reply) → reply_to_closing b mode r ≡ reply → closed b ≡ b' → Replied v r r' reply → Closed v r r' b b' mode
 closed_so b b' r r' mode v reply e c d =
     record {
       answer = d.answer ∙ ap (answer_of name_offset) (sym e);
@@ -133,16 +133,16 @@ closed_so b b' r r' mode v reply e c d =
       receiver = sym c;
     }
 
-module _ (b : List ℕ) (mode : ℕ) (r : List ℕ) (v : Verdict) (ok : Bool) (is : ok ≡ is_receiver b) where
-  pub close_bad : not ok ≡ true → answer_by v ≡ answer 1 [] → Closed v r r b b mode
-  unfolding refusal_answer answer_of
-  close_bad n a =
+module _ (b : List ℕ) (mode : ℕ) (r : List ℕ) (ok : Bool) (is : ok ≡ is_receiver b) where
+  pub close_bad : not ok ≡ true → Closed (Err BadRegion) r r b b mode
+  unfolding answer_of
+  close_bad n =
       let bad : is_receiver b ≡ false = sym is ∙ not-true ok n in
-      closed_so b b r r mode v (refused BadRegion) (closing_bad b mode r bad) (closed_bad b bad) (record { answer = a; region = refl })
+      closed_so b b r r mode (Err BadRegion) (refused BadRegion) (closing_bad b mode r bad) (closed_bad b bad) (record { answer = refl; region = refl })
 
-  pub close_done : (p r' b' : List ℕ) → not ok ≡ false → p ≡ held b → Replied v r r' (reply_to (prepare p mode) r) → b' ≡ fresh
+  pub close_done : (v : Result Verdict Refusal) (p r' b' : List ℕ) → not ok ≡ false → p ≡ held b → Replied v r r' (reply_to (prepare p mode) r) → b' ≡ fresh
       → Closed v r r' b b' mode
-  close_done p r' b' y e d f =
+  close_done v p r' b' y e d f =
       let good : is_receiver b ≡ true = sym is ∙ not-false ok y in
       closed_so b b' r r' mode v (reply_to (prepare p mode) r) (closing_good b mode r good ∙ ap (λ (l : List ℕ). reply_to (prepare l mode) r) (sym e))
       (closed_good b good ∙ sym f) d

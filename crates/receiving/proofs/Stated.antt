@@ -1,4 +1,5 @@
 -- What specs/Stated.antt states, proved. Assumes nothing.
+use Rattle.std.specs.Prelude.{Result, Ok, Err}
 use mathlib.Core.Path.{◌≡◌, refl, sym, ap, subst, ◌∙◌}
 use mathlib.Core.Bool.{Bool, true, false, cond, false≢true}
 use mathlib.Core.List.{List, [], ◌∷◌, ◌++◌, append_assoc, append-nil}
@@ -10,8 +11,6 @@ use borrow.Author.Tests.{eq-eqb, ne_eqb, ltb-true, ltb-false}
 use Rattle.word.specs.Cut.{flat}
 use Rattle.model.specs.declared.Refusal.{Refusal}
 use Rattle.model.specs.declared.Refusal.TheVariants.{BadRegion, ReceiverFull}
-use Rattle.model.specs.Outcome.{Outcome}
-use Rattle.model.specs.Outcome.Outcome.{refuse, pass}
 use Rattle.model.specs.Reply.{Reply}
 use Rattle.model.specs.Reply.Call.{prepare}
 use Rattle.model.specs.Numbers.{answer, answer_of, refusal_answer}
@@ -30,42 +29,42 @@ use Rattle.receiving.proofs.Laws.{taken_bad, taken_full, taken_done}
 -- ---- a call on a receiver alone
 
 -- the answer record's size decides
-abbrev chosen : Bool → ReceiverCall → Outcome (List ℕ) → List ℕ → List ℕ → Out
+abbrev chosen : Bool → ReceiverCall → Result (List ℕ) Refusal → List ℕ → List ℕ → Out
 chosen t c o b a = cond t (kept_out (kept_as c o b)) (untouched a (b ∷ []))
 
 pub receiver_unchanged : ReceiverUnchanged
 unfolding receiver_call received
 receiver_unchanged c b a n a' lent d not_done = go (eqb (length a) 128) (receiver_of c b) d.code d.lent
   where
-    go : (t : Bool) (o : Outcome (List ℕ)) → n ≡ (chosen t c o b a).code → lent ≡ (chosen t c o b a).lent → lent ≡ b ∷ []
+    go : (t : Bool) (o : Result (List ℕ) Refusal) → n ≡ (chosen t c o b a).code → lent ≡ (chosen t c o b a).lent → lent ≡ b ∷ []
     go false o e f = f
-    go true (refuse x) e f = f
-    go true (pass b') e f = absurd (not_done e)
+    go true (Err x) e f = f
+    go true (Ok b') e f = absurd (not_done e)
 
 -- one that is done leaves what it comes to
-done_leaves : (c : ReceiverCall) (b a a' b' : List ℕ) → Did (receiver_call c b a) 0 a' (b' ∷ []) → receiver_of c b ≡ pass b'
+done_leaves : (c : ReceiverCall) (b a a' b' : List ℕ) → Did (receiver_call c b a) 0 a' (b' ∷ []) → receiver_of c b ≡ Ok b'
 unfolding receiver_call received
 done_leaves c b a a' b' d = go (eqb (length a) 128) (receiver_of c b) d.code d.lent
   where
-    go : (t : Bool) (o : Outcome (List ℕ)) → 0 ≡ (chosen t c o b a).code → b' ∷ [] ≡ (chosen t c o b a).lent → o ≡ pass b'
+    go : (t : Bool) (o : Result (List ℕ) Refusal) → 0 ≡ (chosen t c o b a).code → b' ∷ [] ≡ (chosen t c o b a).lent → o ≡ Ok b'
     go false o e f = absurd (omega arith)
-    go true (refuse x) e f = absurd (refusal_number x e)
-    go true (pass b'') e f = ap pass (sym (only b' b'' f))
+    go true (Err x) e f = absurd (refusal_number x e)
+    go true (Ok b'') e f = ap Ok (sym (only b' b'' f))
 
 -- with a record of 128 bytes it does what it comes to
-does : (c : ReceiverCall) (b a : List ℕ) (o : Outcome (List ℕ)) → length a ≡ 128 → receiver_of c b ≡ o → receiver_call c b a ≡ kept_out (kept_as c o b)
+does : (c : ReceiverCall) (b a : List ℕ) (o : Result (List ℕ) Refusal) → length a ≡ 128 → receiver_of c b ≡ o → receiver_call c b a ≡ kept_out (kept_as c o b)
 unfolding receiver_call received
 does c b a o l e = rw (eq-eqb (length a) 128 l, e)
 
-fresh_comes : (b b' : List ℕ) → receiver_of fresh_receiver b ≡ pass b' → b' ≡ fresh
+fresh_comes : (b b' : List ℕ) → receiver_of fresh_receiver b ≡ Ok b' → b' ≡ fresh
 unfolding receiver_of freshened
 fresh_comes b b' e = go (eqb (length b) receiver_size) e
   where
-    go : (t : Bool) → cond t (pass fresh) (refuse BadRegion) ≡ pass b' → b' ≡ fresh
+    go : (t : Bool) → cond t (Ok fresh) (Err BadRegion) ≡ Ok b' → b' ≡ fresh
     go true e = sym (pass_is e)
     go false e = absurd (refuse_pass e)
 
-take_comes : (f b b' : List ℕ) → is_receiver b ≡ true → receiver_of (take_fragment f) b ≡ pass b'
+take_comes : (f b b' : List ℕ) → is_receiver b ≡ true → receiver_of (take_fragment f) b ≡ Ok b'
     → (length (held b) + length f ≤ capacity) × (b' ≡ holding (held b ++ f))
 unfolding receiver_of
 take_comes f b b' good e = go (ltb capacity (length (held b) + length f)) refl
@@ -120,11 +119,11 @@ bad_fragment : (b f a : List ℕ) (n : ℕ) (a' : List ℕ) (lent : List (List �
 unfolding receiver_call received receiver_of refusal_answer
 bad_fragment b f a n a' lent bad d = go (eqb (length a) 128) (taken f b) (taken_bad f b bad) d.code d.lent
   where
-    go : (t : Bool) (o : Outcome (List ℕ)) → o ≡ refuse BadRegion → n ≡ (chosen t (take_fragment f) o b a).code → lent ≡ (chosen t (take_fragment f) o b a).lent
+    go : (t : Bool) (o : Result (List ℕ) Refusal) → o ≡ Err BadRegion → n ≡ (chosen t (take_fragment f) o b a).code → lent ≡ (chosen t (take_fragment f) o b a).lent
         → (n ≡ 1) × (lent ≡ b ∷ [])
     go false o p e g = (e, g)
-    go true (refuse x) p e g = (e ∙ ap (λ (x : Refusal). (refusal_answer x).number) (refuse_is p), g)
-    go true (pass b') p e g = absurd (refuse_pass (sym p))
+    go true (Err x) p e g = (e ∙ ap (λ (x : Refusal). (refusal_answer x).number) (refuse_is p), g)
+    go true (Ok b') p e g = absurd (refuse_pass (sym p))
 
 bad_closing : (b : List ℕ) (mode : ℕ) (r a : List ℕ) (n : ℕ) (a' : List ℕ) (lent : List (List ℕ)) → is_receiver b ≡ false → Did (close_call mode r b a) n a' lent
     → (n ≡ 1) × (lent ≡ r ∷ b ∷ [])
@@ -132,7 +131,7 @@ unfolding close_call out_of answer_of refusal_answer reply_to_closing closing cl
 bad_closing b mode r a n a' lent bad d = go (eqb (length a) 128) (is_receiver b) bad d.code d.lent
   where
     o : Bool → Out
-    o t = beside (out_of (reply_or (cond t (pass (prepare (held b) mode)) (refuse BadRegion)) r) r) (cond t fresh b)
+    o t = beside (out_of (reply_or (cond t (Ok (prepare (held b) mode)) (Err BadRegion)) r) r) (cond t fresh b)
 
     go : (t good : Bool) → good ≡ false → n ≡ (cond t (o good) (untouched a (r ∷ b ∷ []))).code
         → lent ≡ (cond t (o good) (untouched a (r ∷ b ∷ []))).lent → (n ≡ 1) × (lent ≡ r ∷ b ∷ [])
@@ -183,7 +182,7 @@ holds fs b (spared {b = b₀} was mode n r a a' r' _ d other) =
     rw (second r' r b b₀ (record_refused mode r b₀ a n a' (r' ∷ b ∷ []) other d).2) (holds fs b₀ was)
 
 -- what a call comes to with a record of 128 bytes is what it does
-comes_did : (c : ReceiverCall) (b a : List ℕ) (o : Outcome (List ℕ)) → length a ≡ 128 → receiver_of c b ≡ o
+comes_did : (c : ReceiverCall) (b a : List ℕ) (o : Result (List ℕ) Refusal) → length a ≡ 128 → receiver_of c b ≡ o
     → Did (receiver_call c b a) (kept_as c o b).answer.number (record_of (kept_as c o b).answer.places) ((kept_as c o b).buffer ∷ [])
 comes_did c b a o l e = rw (does c b a o l e) (record { code = refl; answer = refl; lent = refl })
 
@@ -195,10 +194,10 @@ good_exactly b = (λ good. (held b ∷ [], took (from good) (held b) zeros _ b (
     zeros = replicate 128 0
 
     from : is_receiver b ≡ true → Received [] fresh
-    from good = begun b zeros _ fresh (comes_did fresh_receiver b zeros (pass fresh) refl (rw (eq-eqb (length b) receiver_size (good_size b good))))
+    from good = begun b zeros _ fresh (comes_did fresh_receiver b zeros (Ok fresh) refl (rw (eq-eqb (length b) receiver_size (good_size b good))))
 
     whole : (good : is_receiver b ≡ true) → Did (receiver_call (take_fragment (held b)) fresh zeros) 0 (record_of (answer 0 (length (held b) ∷ [])).places) (b ∷ [])
-    whole good = comes_did (take_fragment (held b)) fresh zeros (pass b) refl whole_comes
+    whole good = comes_did (take_fragment (held b)) fresh zeros (Ok b) refl whole_comes
       where
         none : (fresh ≡ holding []) × (length {A = ℕ} [] ≤ capacity)
         none = (refl, omega arith)
@@ -212,11 +211,11 @@ good_exactly b = (λ good. (held b ∷ [], took (from good) (held b) zeros _ b (
             let h : length (held b) ≤ capacity = good_room b good in
             omega arith
 
-        whole_comes : receiver_of (take_fragment (held b)) fresh ≡ pass b
+        whole_comes : receiver_of (take_fragment (held b)) fresh ≡ Ok b
         whole_comes =
             taken_done (held b) fresh (image_good fresh [] none) room
-            ∙ ap (λ (l : List ℕ). pass (holding (l ++ held b))) nothing
-            ∙ ap pass (sym (good_image b good))
+            ∙ ap (λ (l : List ℕ). Ok (holding (l ++ held b))) nothing
+            ∙ ap Ok (sym (good_image b good))
 
 -- ---- closing them, and one more
 
@@ -242,10 +241,10 @@ takes_exactly fs b was f a l = (fits, full)
     fits : length (flat fs) + length f ≤ capacity
         → Did (receiver_call (take_fragment f) b a) 0 (record_of (answer 0 (length (flat fs ++ f) ∷ [])).places) (holding (flat fs ++ f) ∷ [])
     fits h =
-        let o : Outcome (List ℕ) = pass (holding (flat fs ++ f)) in
-        let comes : receiver_of (take_fragment f) b ≡ o = taken_done f b good (rw seen h) ∙ ap (λ (l : List ℕ). pass (holding (l ++ f))) seen in
+        let o : Result (List ℕ) Refusal = Ok (holding (flat fs ++ f)) in
+        let comes : receiver_of (take_fragment f) b ≡ o = taken_done f b good (rw seen h) ∙ ap (λ (l : List ℕ). Ok (holding (l ++ f))) seen in
         subst (λ (xs : List ℕ). Did (receiver_call (take_fragment f) b a) 0 (record_of (answer 0 (length xs ∷ [])).places) (holding (flat fs ++ f) ∷ []))
         (held_holding (flat fs ++ f) (rw length-append h)) (comes_did (take_fragment f) b a o l comes)
 
     full : capacity < length (flat fs) + length f → Did (receiver_call (take_fragment f) b a) 26 (record_of (answer 26 []).places) (b ∷ [])
-    full h = comes_did (take_fragment f) b a (refuse ReceiverFull) l (taken_full f b good (rw seen h))
+    full h = comes_did (take_fragment f) b a (Err ReceiverFull) l (taken_full f b good (rw seen h))

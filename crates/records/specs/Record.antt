@@ -1,11 +1,9 @@
 -- What the calls on a settings record do with it and with the answer record. No region is lent to them: the one buffer is the record
 -- that is read, or the buffer that is written.
-use Rattle.std.specs.Prelude.{cond, List, [], ◌∷◌, ℕ, length, get_or, ltb}
-use Rattle.std.proofs.Math.Option.{Option}
+use Rattle.model.specs.declared.Refusal.{Refusal}
+use Rattle.std.specs.Prelude.{cond, List, [], ◌∷◌, ℕ, length, get_or, ltb, Option, Result, Ok, Err}
 use Rattle.word.specs.Be.{cut}
 use Rattle.model.specs.declared.Refusal.TheVariants.{NothingThere}
-use Rattle.model.specs.Outcome.{Outcome}
-use Rattle.model.specs.Outcome.Outcome.{refuse, pass}
 use Rattle.model.specs.Numbers.{Answer, answer, refusal_answer}
 use Rattle.settings.specs.Format.{Settings, read}
 use Rattle.settings.specs.Lent.{committer_at, name_at, write_given, fitted, afterwards}
@@ -20,22 +18,22 @@ pub data RecordCall : Type 0 where
 -- ---- answers
 
 -- log setting, usual mode, site, and how many committers
-abbrev pub settings_answer : Outcome Settings → Answer
-settings_answer (refuse x) = refusal_answer x
-settings_answer (pass s) = answer 0 (s.log ∷ s.mode ∷ s.site ∷ length s.committers ∷ [])
+abbrev pub settings_answer : Result Settings Refusal → Answer
+settings_answer (Err x) = refusal_answer x
+settings_answer (Ok s) = answer 0 (s.log ∷ s.mode ∷ s.site ∷ length s.committers ∷ [])
 
 -- its number, and where its name stands in the record, offset and length. 22: no such place
-abbrev pub committer_answer : ℕ → Outcome Settings → Answer
-committer_answer i (refuse x) = refusal_answer x
-committer_answer i (pass s) =
+abbrev pub committer_answer : ℕ → Result Settings Refusal → Answer
+committer_answer i (Err x) = refusal_answer x
+committer_answer i (Ok s) =
     cond (ltb i (length s.committers))
     (answer 0 ((committer_at s i).number ∷ name_at i s ∷ length (committer_at s i).name ∷ []))
     (refusal_answer NothingThere)
 
 -- how long the record is that was written
-abbrev pub write_answer : Outcome (List ℕ) → Answer
-write_answer (refuse x) = refusal_answer x
-write_answer (pass r) = answer 0 (length r ∷ [])
+abbrev pub write_answer : Result (List ℕ) Refusal → Answer
+write_answer (Err x) = refusal_answer x
+write_answer (Ok r) = answer 0 (length r ∷ [])
 
 -- ---- the call: its answer, and the buffer as it is left
 

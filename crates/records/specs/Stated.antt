@@ -1,8 +1,6 @@
 -- What is proved of every call on a settings record that keeps its contract. `determined` (crates/calls) holds of them too. The proofs
 -- stand in proofs/Stated.antt.
-use Rattle.std.specs.Prelude.{◌≡◌, List, [], ◌∷◌, ◌++◌, ℕ, ◌<◌, length, drop}
-use Rattle.std.proofs.Math.Option.{Option}
-use Rattle.model.specs.Outcome.Outcome.{pass}
+use Rattle.std.specs.Prelude.{◌≡◌, List, [], ◌∷◌, ◌++◌, ℕ, ◌<◌, length, drop, Option, Ok}
 use Rattle.answers.specs.Answers.{record_of}
 use Rattle.model.specs.Numbers.{answer}
 use Rattle.settings.specs.Format.{Settings, read}
@@ -25,12 +23,12 @@ WriteKeeps =
     (v : ℕ) (given : Option Settings) (b a a' b' : List ℕ)
     → Did (record_call (write_settings v given) b a) 0 a' (b' ∷ [])
     → (r : List ℕ)
-    × (write_given v given ≡ pass r)
+    × (write_given v given ≡ Ok r)
     × (b' ≡ r ++ drop (length r) b)
     × (a' ≡ record_of (answer 0 (length r ∷ [])).places)
 
 -- The part of a committer that is there is its name.
 abbrev pub PartIsName : Type 0
 PartIsName =
-    (known : ℕ) (b : List ℕ) (s : Settings) (i : ℕ) → read known b ≡ pass s → i < length s.committers
+    (known : ℕ) (b : List ℕ) (s : Settings) (i : ℕ) → read known b ≡ Ok s → i < length s.committers
     → committer_part known i b ≡ (committer_at s i).name

@@ -7,33 +7,23 @@ ghost use Rattle.calls.specs.Call.{Keeps};
 ghost use Rattle.records.specs.Record.{kept, committer_part};
 ghost use Rattle.records.specs.Record.RecordCall.{read_settings, read_committer, write_settings};
 
-use answers::{Answer, Verdict};
-use reader::{Finding, Reading};
-use scribe::Writing;
+use answers::Verdict;
+use model::Refusal;
 
 // The settings of a record, as a reader that knows versions up to the one given.
-pub fn read_settings(bytes: &[u8], known: u64) -> Verdict
+pub fn read_settings(bytes: &[u8], known: u64) -> Result<Verdict, Refusal>
     ensures { Keeps result bytes.now (kept (read_settings known) bytes.now) }
 {
-    let reading = reader::read(bytes, known);
-    match reading {
-        Reading::Unknown => Verdict::bare(Answer::UNKNOWN_VERSION),
-        Reading::Malformed => Verdict::bare(Answer::MALFORMED_RECORD),
-        Reading::Read(s) => Verdict::four(Answer::DONE, s.log, s.mode, s.site, s.committers),
-    }
+    let s = reader::read(bytes, known)?;
+    Ok(Verdict::done(&[s.log, s.mode, s.site, s.committers]))
 }
 
 // A committer of it by place.
-pub fn read_committer(bytes: &[u8], known: u64, place: u64) -> Verdict
+pub fn read_committer(bytes: &[u8], known: u64, place: u64) -> Result<Verdict, Refusal>
     ensures { Keeps result bytes.now (kept (read_committer known place) bytes.now) }
 {
-    let finding = reader::read_committer(bytes, known, place);
-    match finding {
-        Finding::Unknown => Verdict::bare(Answer::UNKNOWN_VERSION),
-        Finding::Malformed => Verdict::bare(Answer::MALFORMED_RECORD),
-        Finding::NoPlace => Verdict::bare(Answer::NOTHING_THERE),
-        Finding::Found(s) => Verdict::four(Answer::DONE, s.number, s.at as u64, s.length as u64, 0),
-    }
+    let s = reader::read_committer(bytes, known, place)?;
+    Ok(Verdict::done(&[s.number, s.at as u64, s.length as u64, 0]))
 }
 
 // Its name as that stretch of the record, not a copy; empty on a refusal.
@@ -53,14 +43,9 @@ pub fn write_settings(
     numbers: &[u64],
     lengths: &[u64],
     names: &[u8],
-) -> Verdict
+) -> Result<Verdict, Refusal>
     ensures { Keeps result buffer.new (kept (write_settings version (settings_given log mode site (committers_given numbers.now lengths.now names.now))) buffer.old) }
 {
-    let writing = scribe::write(buffer, version, log, mode, site, numbers, lengths, names);
-    match writing {
-        Writing::Unknown => Verdict::bare(Answer::UNKNOWN_VERSION),
-        Writing::Malformed => Verdict::bare(Answer::MALFORMED_RECORD),
-        Writing::Short => Verdict::bare(Answer::SHORT_BUFFER),
-        Writing::Written(n) => Verdict::one(Answer::DONE, n as u64),
-    }
+    let length = scribe::write(buffer, version, log, mode, site, numbers, lengths, names)?;
+    Ok(Verdict::done(&[length as u64]))
 }

@@ -1,9 +1,9 @@
 -- The two halves of decoding: every store that obeys the rules is decoded from its image, and what is decoded is such a store,
 -- whose image is the region. And what accessors ask for and leave, by images. Assumes nothing.
+use Rattle.std.specs.Prelude.{Some, None}
 use mathlib.Core.Path.{◌≡◌, refl, sym, ap, ◌∙◌, subst}
 use mathlib.Core.Bool.{Bool, true, false, cond}
 use mathlib.Core.List.{List}
-use mathlib.Core.Option.{none, some}
 use Prim.Native.Nat.{ℕ}
 use native.Mathlib.Omega.{arith}
 use Rattle.word.proofs.Tests.{both_true, true_both}
@@ -16,11 +16,11 @@ use Rattle.region.proofs.Parts.{parts}
 use Rattle.region.proofs.Image.{view_image, layout_image}
 use Rattle.region.proofs.View.{image_view, fits_view}
 
-pub decode_good : (r : List ℕ) → good r ≡ true → decode r ≡ some (view r)
+pub decode_good : (r : List ℕ) → good r ≡ true → decode r ≡ Some (view r)
 unfolding decode
 decode_good r e = rw e
 
-pub decode_bad : (r : List ℕ) → good r ≡ false → decode r ≡ none
+pub decode_bad : (r : List ℕ) → good r ≡ false → decode r ≡ None
 unfolding decode
 decode_bad r e = rw e
 
@@ -38,14 +38,14 @@ pub good_image : (s : Store) → Fine s → good (image s) ≡ true
 good_image s f =
     parts_good (image s) (layout_image s (fine_fits s f)) (subst Fine (sym (view_image s (fine_fits s f))) f)
 
-pub decode_image : (s : Store) → Fine s → decode (image s) ≡ some s
-decode_image s f = decode_good (image s) (good_image s f) ∙ ap some (view_image s (fine_fits s f))
+pub decode_image : (s : Store) → Fine s → decode (image s) ≡ Some s
+decode_image s f = decode_good (image s) (good_image s f) ∙ ap Some (view_image s (fine_fits s f))
 
-pub decoded : (r : List ℕ) (s : Store) → decode r ≡ some s → Fine s × (image s ≡ r)
+pub decoded : (r : List ℕ) (s : Store) → decode r ≡ Some s → Fine s × (image s ≡ r)
 unfolding decode
 decoded r s e = go (good r) refl e
   where
-    go : (t : Bool) → good r ≡ t → cond t (some (view r)) none ≡ some s → Fine s × (image s ≡ r)
+    go : (t : Bool) → good r ≡ t → cond t (Some (view r)) None ≡ Some s → Fine s × (image s ≡ r)
     go true p q =
         let v : view r ≡ s = cc in
         let b : (layout r ≡ true) × Fine (view r) = good_parts r p in

@@ -1,4 +1,6 @@
 -- What a store must be for its bytes to hold it: each part fits its slot. A store that obeys the rules is such a one. Assumes nothing.
+use Rattle.std.specs.Prelude.{Option, Some, None}
+use Rattle.target.specs.declared.ObjectNumber.{ObjectNumber}
 use mathlib.Core.Path.{◌≡◌, refl}
 use mathlib.Core.Bool.{Bool, true, false}
 use mathlib.Core.List.{List, [], ◌∷◌}
@@ -15,17 +17,11 @@ use Rattle.word.proofs.Tests.{both_true, every_at}
 use Rattle.target.specs.declared.NameNumber.{NameNumber}
 use Rattle.target.specs.declared.Target.{Target}
 use Rattle.target.specs.declared.Target.TheVariants.{Object, Symbolic}
-use Rattle.target.specs.declared.OptionTarget.{OptionTarget}
-use Rattle.target.specs.declared.OptionTarget.TheVariants.{Absent, Present}
 use Rattle.target.specs.Found.{value_in}
-use Rattle.transaction.specs.declared.ParentIndex.{ParentIndex}
-use Rattle.transaction.specs.declared.ParentIndex.TheVariants.{NoParent, Parent}
 use Rattle.transaction.specs.declared.Edit.{Edit}
 use Rattle.transaction.specs.Change.{new_value, previous_value}
 use Rattle.model.specs.declared.Loose.{Loose}
 use Rattle.model.specs.declared.Loose.TheVariants as loose
-use Rattle.model.specs.declared.Packed.{Packed}
-use Rattle.model.specs.declared.Packed.TheVariants as packed
 use Rattle.model.specs.declared.Line.{Line}
 use Rattle.model.specs.Names.{is_name}
 use Rattle.model.specs.Store.{Store, Entry, no_entry, count, entry_at, entry_of, no_line, rows_in, is_id}
@@ -70,18 +66,18 @@ module _ (n : ℕ) (few : n ≤ 256) where
   target_fits (Object o) e = id_fits o.0 e
   target_fits (Symbolic m) e = link_fits m.0 e
 
-  option_fits : (t : OptionTarget) → fine_option n t ≡ true → FitsOption t
-  option_fits Absent e = tt
-  option_fits (Present t) e = target_fits t e
+  option_fits : (t : Option Target) → fine_option n t ≡ true → FitsOption t
+  option_fits None e = tt
+  option_fits (Some t) e = target_fits t e
 
   loose_fits : (v : Loose) → fine_loose n v ≡ true → FitsLoose v
   loose_fits loose.None e = tt
   loose_fits (loose.Target t) e = target_fits t e
   loose_fits loose.Broken e = tt
 
-  packed_fits : (name : List ℕ) (v : Packed) → fine_packed name v ≡ true → FitsPacked v
-  packed_fits name packed.None e = tt
-  packed_fits name (packed.Object o) e = id_fits o.0 (both_true _ _ e).0
+  packed_fits : (name : List ℕ) (v : Option ObjectNumber) → fine_packed name v ≡ true → FitsPacked v
+  packed_fits name None e = tt
+  packed_fits name (Some o) e = id_fits o.0 (both_true _ _ e).0
 
   entry_fits : (e : Entry) → fine_entry n e ≡ true → FineText 64 e.name × FitsLoose e.loose × FitsPacked e.packed
   unfolding fine_entry
@@ -101,9 +97,9 @@ module _ (n : ℕ) (few : n ≤ 256) where
         message = ltb-true _ _ (t 5);
       }
 
-  parent_fits : (i : ℕ) (p : ParentIndex) → i < 160 → fine_parent i p ≡ true → FitsParent p
-  parent_fits i NoParent h e = tt
-  parent_fits i (Parent j) h e = let l : j < i = ltb-true j i e in le_trans (le_trans l (let k : i ≤ 160 = omega arith in k)) (lit≤ tt)
+  parent_fits : (i : ℕ) (p : Option ℕ) → i < 160 → fine_parent i p ≡ true → FitsParent p
+  parent_fits i None h e = tt
+  parent_fits i (Some j) h e = let l : j < i = ltb-true j i e in le_trans (le_trans l (let k : i ≤ 160 = omega arith in k)) (lit≤ tt)
 
   row_fits : (rows : List Edit) (i : ℕ) → i < 160 → fine_row n rows i ≡ true → FitsRow (row_at rows i)
   unfolding fine_row
@@ -132,16 +128,16 @@ fine_fits s f =
 
 -- ---- what a name reads in such a store fits too, also where the name is not registered
 
-seen_fits : (seen : Bool) (p : Packed) → FitsPacked p → FitsPacked (packed_seen seen p)
+seen_fits : (seen : Bool) (p : Option ObjectNumber) → FitsPacked p → FitsPacked (packed_seen seen p)
 seen_fits true p f = f
 seen_fits false p f = tt
 
-found_fits : (v : Loose) (p : Packed) → FitsLoose v → FitsPacked p → FitsOption (value_in (found_in v p))
+found_fits : (v : Loose) (p : Option ObjectNumber) → FitsLoose v → FitsPacked p → FitsOption (value_in (found_in v p))
 found_fits (loose.Target t) p f g = f
-found_fits loose.None (packed.Object o) f g = g
-found_fits loose.Broken (packed.Object o) f g = g
-found_fits loose.None packed.None f g = tt
-found_fits loose.Broken packed.None f g = tt
+found_fits loose.None (Some o) f g = g
+found_fits loose.Broken (Some o) f g = g
+found_fits loose.None None f g = tt
+found_fits loose.Broken None f g = tt
 
 pub reads_fit : (s : Store) → FitsStore s → (seen : Bool) (n : NameNumber) → FitsOption (value_of seen (entry_of s n))
 reads_fit s f seen n = go (ltb n.0 (count s)) refl

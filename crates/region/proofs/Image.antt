@@ -1,9 +1,9 @@
 -- The image of a store that fits: its length, its bytes; it is laid out so, and the store is seen in it. Assumes nothing.
+use Rattle.std.specs.Prelude.{Option, Some, None, unwrap_or}
+use Rattle.target.specs.declared.ObjectNumber.{ObjectNumber}
 use mathlib.Core.Path.{◌≡◌, refl, ap, ap₂, ◌∙◌}
 use mathlib.Core.Bool.{true, cond}
 use mathlib.Core.List.{List, []}
-use mathlib.Core.Option
-use mathlib.Core.Option.{Option, none, some}
 use Prim.Native.Nat.{ℕ, ◌*◌, ◌≤◌, ◌<◌}
 use native.Mathlib.Omega.{arith}
 use lib.ListN.{length, get_or}
@@ -25,7 +25,6 @@ use Rattle.transaction.specs.declared.PackedRefs.{PackedRefs}
 use Rattle.transaction.specs.declared.PackedRefs.TheVariants.{DeletionsOnly, DeletionsAndNonSymbolicUpdates, DeletionsAndNonSymbolicUpdatesRemoveLooseSourceReference}
 use Rattle.transaction.specs.Fields.{packed_refs_number}
 use Rattle.model.specs.declared.Loose.{Loose}
-use Rattle.model.specs.declared.Packed.{Packed}
 use Rattle.model.specs.declared.Lock.{Lock}
 use Rattle.model.specs.declared.Lock.TheVariants.{Free, Foreign, Ours}
 use Rattle.model.specs.declared.Line.{Line}
@@ -33,10 +32,12 @@ use Rattle.model.specs.declared.WriteReflog.{WriteReflog}
 use Rattle.model.specs.declared.WriteReflog.TheVariants.{Disable, Normal, Always}
 use Rattle.model.specs.Store.{Store, Entry, Prepared, no_entry, no_line, no_row, count, entry_at, rows_in, lock_byte}
 use Rattle.model.specs.Load.{setting_of}
-use Rattle.slots.specs.Values.{loose_form, packed_form, packed_in, lock_form, lock_from, line_form, line_in}
+use Rattle.slots.specs.Values.{loose_form, packed_form, packed_in, lock_form, line_form, line_in}
+use Rattle.model.specs.Store.{lock_from}
 use Rattle.slots.specs.Row.{row_form}
 use Rattle.region.specs.Layout.{setting_at, packed_lock_at, name_base, name_width, loose_base, loose_width, packed_base, packed_width, lock_base, lock_width, row_base, row_width, line_base, line_width, rest_size, sizes}
-use Rattle.region.specs.Region.{setting_byte, mode_byte, sections, image, name_count, line_count, mode_number, row_count, entry_seen, line_seen, row_seen, prepared_from, view, layout}
+use Rattle.region.specs.Region.{mode_byte, sections, image, name_count, line_count, mode_number, row_count, entry_seen, line_seen, row_seen, prepared_from, view, layout}
+use Rattle.model.specs.Load.{setting_byte}
 use Rattle.slots.proofs.Codecs.{looses, packeds, locks, lines, rows}
 use Rattle.region.proofs.Sized.{sized, length_image}
 use Rattle.region.proofs.Fits.{FitsStore}
@@ -49,12 +50,12 @@ names = texts 64 (lit< tt)
 
 -- ---- the small parts: their bytes are small, and say which part it is
 
-setting_told : (w : WriteReflog) → (setting_byte w ≤ 2) × (Option.get_or (setting_of (setting_byte w)) Disable ≡ w)
+setting_told : (w : WriteReflog) → (setting_byte w ≤ 2) × (unwrap_or (setting_of (setting_byte w)) Disable ≡ w)
 setting_told Disable = (lit≤ tt, refl)
 setting_told Normal = (lit≤ tt, refl)
 setting_told Always = (lit≤ tt, refl)
 
-lock_told : (l : Lock) → (lock_byte l ≤ 2) × (Option.get_or (lock_from (lock_byte l)) Free ≡ l)
+lock_told : (l : Lock) → (lock_byte l ≤ 2) × (unwrap_or (lock_from (lock_byte l)) Free ≡ l)
 lock_told Free = (lit≤ tt, refl)
 lock_told Foreign = (lit≤ tt, refl)
 lock_told Ours = (lit≤ tt, refl)
@@ -65,17 +66,17 @@ number_small DeletionsAndNonSymbolicUpdates = lit≤ tt
 number_small DeletionsAndNonSymbolicUpdatesRemoveLooseSourceReference = lit≤ tt
 
 mode_small : (p : Option Prepared) → mode_byte p ≤ 3
-mode_small none = lit≤ tt
-mode_small (some p) = number_small p.mode
+mode_small None = lit≤ tt
+mode_small (Some p) = number_small p.mode
 
-number_back : (m : PackedRefs) (rows : List Edit) → prepared_from (packed_refs_number m) rows ≡ some (record { mode = m; rows = rows })
+number_back : (m : PackedRefs) (rows : List Edit) → prepared_from (packed_refs_number m) rows ≡ Some (record { mode = m; rows = rows })
 number_back DeletionsOnly rows = refl
 number_back DeletionsAndNonSymbolicUpdates rows = refl
 number_back DeletionsAndNonSymbolicUpdatesRemoveLooseSourceReference rows = refl
 
 prepared_back : (p : Option Prepared) → prepared_from (mode_byte p) (rows_in p) ≡ p
-prepared_back none = refl
-prepared_back (some p) = number_back p.mode p.rows
+prepared_back None = refl
+prepared_back (Some p) = number_back p.mode p.rows
 
 -- without a mode there is no row
 number_room : (m : PackedRefs) (n : ℕ) → n ≤ 160 → n ≤ cond (eqb (packed_refs_number m) 0) 0 160
@@ -84,10 +85,10 @@ number_room DeletionsAndNonSymbolicUpdates n h = h
 number_room DeletionsAndNonSymbolicUpdatesRemoveLooseSourceReference n h = h
 
 rows_room : (p : Option Prepared) → length (rows_in p) ≤ 160 → length (rows_in p) ≤ cond (eqb (mode_byte p) 0) 0 160
-rows_room none h = lit≤ tt
-rows_room (some p) h = number_room p.mode (length p.rows) h
+rows_room None h = lit≤ tt
+rows_room (Some p) h = number_room p.mode (length p.rows) h
 
-entry_same : (a : List ℕ) (b : Loose) (c : Packed) (d : Lock) (e : Entry) → a ≡ e.name → b ≡ e.loose → c ≡ e.packed → d ≡ e.lock
+entry_same : (a : List ℕ) (b : Loose) (c : Option ObjectNumber) (d : Lock) (e : Entry) → a ≡ e.name → b ≡ e.loose → c ≡ e.packed → d ≡ e.lock
     → record { name = a; loose = b; packed = c; lock = d } ≡ e
 entry_same a b c d e p q r s = rw (p, q, r, s)
 
@@ -236,9 +237,9 @@ module _ (s : Store) (f : FitsStore s) where
   unfolding view
   view_image =
       store_same _ _ _ _ _ s entries_image
-      (ap (λ (n : ℕ). Option.get_or (lock_from n) Free) (lock_image s) ∙ (lock_told s.packed_lock).1)
+      (ap (λ (n : ℕ). unwrap_or (lock_from n) Free) (lock_image s) ∙ (lock_told s.packed_lock).1)
       all_lines_image
-      (ap (λ (n : ℕ). Option.get_or (setting_of n) Disable) (setting_image s) ∙ (setting_told s.setting).1)
+      (ap (λ (n : ℕ). unwrap_or (setting_of n) Disable) (setting_image s) ∙ (setting_told s.setting).1)
       (ap₂ prepared_from (mode_image s) all_rows_image ∙ prepared_back s.prepared)
 
   parts_image : Parts (image s)

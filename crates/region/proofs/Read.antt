@@ -1,8 +1,8 @@
 -- What accessors that read rest on. Assumes nothing.
+use Rattle.std.specs.Prelude.{Option, Some, None}
 use mathlib.Core.Path.{◌≡◌, refl, sym, ap, ◌∙◌}
 use mathlib.Core.Bool.{true}
 use mathlib.Core.List.{List}
-use mathlib.Core.Option.{Option, none, some}
 use Prim.Native.Nat.{ℕ, ◌+◌, ◌*◌, ◌≤◌, ◌<◌}
 use native.Mathlib.Nat.{le_trans, le_of_eq, add-zero}
 use native.Mathlib.Omega.{arith}
@@ -120,9 +120,9 @@ mode_positive DeletionsAndNonSymbolicUpdates e = omega arith
 mode_positive DeletionsAndNonSymbolicUpdatesRemoveLooseSourceReference e = omega arith
 
 pub is_prepared_lem : (p : Option Prepared) → (mode_byte p ≡ 0 → ⊥) → is_prepared p ≡ true
-is_prepared_lem none h = absurd (h refl)
-is_prepared_lem (some p) h = refl
+is_prepared_lem None h = absurd (h refl)
+is_prepared_lem (Some p) h = refl
 
-pub not_prepared : (p : Option Prepared) → mode_byte p ≡ 0 → p ≡ none
-not_prepared none h = refl
-not_prepared (some p) h = absurd (mode_positive p.mode h)
+pub not_prepared : (p : Option Prepared) → mode_byte p ≡ 0 → p ≡ None
+not_prepared None h = refl
+not_prepared (Some p) h = absurd (mode_positive p.mode h)

@@ -1,8 +1,8 @@
 -- What is seen in a region, part by part: its counts, its small fields, and what stands at a name, a line and a row. Assumes nothing.
+use Rattle.std.specs.Prelude.{unwrap_or}
 use mathlib.Core.Path.{◌≡◌, refl, ap, ◌∙◌}
 use mathlib.Core.Bool.{Bool, true, false, cond}
 use mathlib.Core.List.{List, [], ◌∷◌}
-use mathlib.Core.Option
 use Prim.Native.Nat.{ℕ, zero, suc, ◌≤◌, ◌<◌}
 use native.Mathlib.Omega.{arith}
 use lib.ListN.{length, get_or}
@@ -12,15 +12,16 @@ use Rattle.word.specs.Table.{tabulate}
 use Rattle.word.proofs.Table.{length_tabulate, get_d_tabulate}
 use Rattle.transaction.specs.declared.Edit.{Edit}
 use Rattle.transaction.specs.declared.PackedRefs.TheVariants.{DeletionsOnly}
-use Rattle.transaction.specs.Fields.{packed_refs_of, packed_refs_option}
+use Rattle.transaction.specs.Fields.{packed_refs_of}
 use Rattle.model.specs.declared.Lock.TheVariants.{Free}
 use Rattle.model.specs.declared.WriteReflog.TheVariants.{Disable}
 use Rattle.model.specs.Store.{no_entry, no_line, no_row, count, entry_at, rows_in, mode_in, lock_byte}
 use Rattle.model.specs.Rows as model
 use Rattle.model.specs.Load.{setting_of}
-use Rattle.slots.specs.Values.{lock_from}
+use Rattle.model.specs.Store.{lock_from}
 use Rattle.region.specs.Layout.{setting_at, packed_lock_at}
-use Rattle.region.specs.Region.{setting_byte, mode_byte, name_count, line_count, mode_number, row_count, entry_seen, line_seen, row_seen, prepared_from, view}
+use Rattle.region.specs.Region.{mode_byte, name_count, line_count, mode_number, row_count, entry_seen, line_seen, row_seen, prepared_from, view}
+use Rattle.model.specs.Load.{setting_byte}
 use Rattle.region.proofs.Parts.{Parts}
 
 -- ---- the small fields, of numbers that have a meaning
@@ -32,11 +33,11 @@ up_to_two P a b c (suc zero) h = b
 up_to_two P a b c (suc (suc zero)) h = c
 up_to_two P a b c (suc (suc (suc n))) h = absurd (omega arith)
 
-setting_forth : (x : ℕ) → x ≤ 2 → setting_byte (Option.get_or (setting_of x) Disable) ≡ x
-setting_forth = up_to_two (λ x. setting_byte (Option.get_or (setting_of x) Disable) ≡ x) refl refl refl
+setting_forth : (x : ℕ) → x ≤ 2 → setting_byte (unwrap_or (setting_of x) Disable) ≡ x
+setting_forth = up_to_two (λ x. setting_byte (unwrap_or (setting_of x) Disable) ≡ x) refl refl refl
 
-lock_forth : (x : ℕ) → x ≤ 2 → lock_byte (Option.get_or (lock_from x) Free) ≡ x
-lock_forth = up_to_two (λ x. lock_byte (Option.get_or (lock_from x) Free) ≡ x) refl refl refl
+lock_forth : (x : ℕ) → x ≤ 2 → lock_byte (unwrap_or (lock_from x) Free) ≡ x
+lock_forth = up_to_two (λ x. lock_byte (unwrap_or (lock_from x) Free) ≡ x) refl refl refl
 
 mode_forth : (m : ℕ) (rows : List Edit) → m ≤ 3 → mode_byte (prepared_from m rows) ≡ m
 mode_forth zero rows h = refl
@@ -51,7 +52,7 @@ rows_forth zero [] h = refl
 rows_forth zero (x ∷ xs) h = absurd (omega arith)
 rows_forth (suc m) rows h = refl
 
-mode_read : (m : ℕ) (rows : List Edit) → mode_in (prepared_from m rows) ≡ Option.get_or (packed_refs_option (packed_refs_of m)) DeletionsOnly
+mode_read : (m : ℕ) (rows : List Edit) → mode_in (prepared_from m rows) ≡ unwrap_or ((packed_refs_of m)) DeletionsOnly
 mode_read zero rows = refl
 mode_read (suc m) rows = refl
 
@@ -70,16 +71,16 @@ module _ (r : List ℕ) where
   unfolding view
   lines_view = length_tabulate (line_count r) (line_seen r)
 
-  pub setting_view : (view r).setting ≡ Option.get_or (setting_of (val (cut setting_at 1 r))) Disable
+  pub setting_view : (view r).setting ≡ unwrap_or (setting_of (val (cut setting_at 1 r))) Disable
   unfolding view
   setting_view = refl
 
-  pub packed_lock_view : (view r).packed_lock ≡ Option.get_or (lock_from (val (cut packed_lock_at 1 r))) Free
+  pub packed_lock_view : (view r).packed_lock ≡ unwrap_or (lock_from (val (cut packed_lock_at 1 r))) Free
   unfolding view
   packed_lock_view = refl
 
   -- the mode of what is prepared
-  pub mode_in_view : mode_in (view r).prepared ≡ Option.get_or (packed_refs_option (packed_refs_of (mode_number r))) DeletionsOnly
+  pub mode_in_view : mode_in (view r).prepared ≡ unwrap_or ((packed_refs_of (mode_number r))) DeletionsOnly
   unfolding view
   mode_in_view = mode_read (mode_number r) (tabulate (row_count r) (row_seen r))
 

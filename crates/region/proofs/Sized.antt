@@ -11,7 +11,8 @@ use Rattle.model.specs.Store.{Store, Entry, count, rows_in, lock_byte}
 use Rattle.slots.specs.Values.{loose_form, packed_form, lock_form, line_form}
 use Rattle.slots.specs.Row.{row_form}
 use Rattle.region.specs.Layout.{sizes, region_size, rest_size}
-use Rattle.region.specs.Region.{sections, image, setting_byte, mode_byte}
+use Rattle.region.specs.Region.{sections, image, mode_byte}
+use Rattle.model.specs.Load.{setting_byte}
 use Rattle.slots.proofs.Codecs.{wide_loose, wide_packed, wide_lock, wide_line, wide_row}
 
 pub sized : (s : Store) → map length (sections s) ≡ sizes

@@ -1,6 +1,5 @@
 -- The one image of a store, what a region is seen to hold, and which regions are good.
-use Rattle.std.specs.Prelude.{◌≡◌, Bool, true, ◌&&◌, cond, List, [], ◌∷◌, ℕ, zero, suc, ◌+◌, ◌*◌, ◌≤◌, length, eqb, leb}
-use Rattle.std.proofs.Math.Option.{Option, none, some, get_or}
+use Rattle.std.specs.Prelude.{◌≡◌, Bool, true, ◌&&◌, cond, List, [], ◌∷◌, ℕ, zero, suc, ◌+◌, ◌*◌, ◌≤◌, length, eqb, leb, Option, Some, None, unwrap_or}
 use Rattle.std.proofs.Math.Pow.{are_bytes}
 use Rattle.word.specs.Be.{cut, val, be}
 use Rattle.word.specs.Cut.{flat}
@@ -10,31 +9,26 @@ use Rattle.word.specs.Text.{enc_text, dec_text, test_text}
 use Rattle.word.specs.Tests.{every}
 use Rattle.transaction.specs.declared.PackedRefs.TheVariants.{DeletionsOnly}
 use Rattle.transaction.specs.declared.Edit.{Edit}
-use Rattle.transaction.specs.Fields.{packed_refs_number, packed_refs_of, packed_refs_option}
+use Rattle.transaction.specs.Fields.{packed_refs_number, packed_refs_of}
 use Rattle.model.specs.declared.Loose.TheVariants as loose
-use Rattle.model.specs.declared.Packed.TheVariants as packed
 use Rattle.model.specs.declared.Lock.TheVariants.{Free}
 use Rattle.model.specs.declared.WriteReflog.{WriteReflog}
 use Rattle.model.specs.declared.WriteReflog.TheVariants.{Disable, Normal, Always}
 use Rattle.model.specs.declared.Line.{Line}
 use Rattle.model.specs.Store.{Store, Entry, Prepared, no_line, no_row, count, rows_in, lock_byte}
 use Rattle.model.specs.Fine.{fine}
-use Rattle.model.specs.Load.{setting_of}
-use Rattle.slots.specs.Values.{loose_form, loose_in, packed_form, packed_in, lock_form, lock_from, lock_in, line_form, line_in}
+use Rattle.model.specs.Load.{setting_byte, setting_of}
+use Rattle.slots.specs.Values.{loose_form, loose_in, packed_form, packed_in, lock_form, lock_in, line_form, line_in}
+use Rattle.model.specs.Store.{lock_from}
 use Rattle.slots.specs.Row.{row_form, row_in}
 use Rattle.region.specs.Layout.{names_at, lines_at, setting_at, mode_at, rows_at, packed_lock_at, name_base, name_width, loose_base, loose_width, packed_base, packed_width, lock_base, lock_width, row_base, row_width, line_base, line_width, region_size, rest_size}
 
 -- ---- the image
 
-abbrev pub setting_byte : WriteReflog → ℕ
-setting_byte Disable = 0
-setting_byte Normal = 1
-setting_byte Always = 2
-
 -- 0 where nothing is prepared
 abbrev pub mode_byte : Option Prepared → ℕ
-mode_byte none = 0
-mode_byte (some p) = packed_refs_number p.mode
+mode_byte None = 0
+mode_byte (Some p) = packed_refs_number p.mode
 
 -- version, length of the rest, setting, counts, mode, count of rows, the packed table's lock; then names, loose values, packed
 -- values, locks, rows and lines
@@ -76,28 +70,28 @@ row_count r = val (cut rows_at 1 r)
 abbrev pub entry_seen : List ℕ → ℕ → Entry
 entry_seen r i = record {
   name = dec_text (slot name_base name_width i r);
-  loose = get_or (loose_in (slot loose_base loose_width i r)) loose.None;
-  packed = get_or (packed_in (slot packed_base packed_width i r)) packed.None;
-  lock = get_or (lock_in (slot lock_base lock_width i r)) Free;
+  loose = unwrap_or (loose_in (slot loose_base loose_width i r)) loose.None;
+  packed = unwrap_or (packed_in (slot packed_base packed_width i r)) None;
+  lock = unwrap_or (lock_in (slot lock_base lock_width i r)) Free;
 }
 
 abbrev pub line_seen : List ℕ → ℕ → Line
-line_seen r i = get_or (line_in (slot line_base line_width i r)) no_line
+line_seen r i = unwrap_or (line_in (slot line_base line_width i r)) no_line
 
 abbrev pub row_seen : List ℕ → ℕ → Edit
-row_seen r i = get_or (row_in (slot row_base row_width i r)) no_row
+row_seen r i = unwrap_or (row_in (slot row_base row_width i r)) no_row
 
 abbrev pub prepared_from : ℕ → List Edit → Option Prepared
-prepared_from zero rows = none
+prepared_from zero rows = None
 prepared_from (suc m) rows =
-    some (record { mode = get_or (packed_refs_option (packed_refs_of (suc m))) DeletionsOnly; rows = rows })
+    Some (record { mode = unwrap_or ((packed_refs_of (suc m))) DeletionsOnly; rows = rows })
 
 unfoldable pub view : List ℕ → Store
 view r = record {
   entries = tabulate (name_count r) (entry_seen r);
-  packed_lock = get_or (lock_from (val (cut packed_lock_at 1 r))) Free;
+  packed_lock = unwrap_or (lock_from (val (cut packed_lock_at 1 r))) Free;
   lines = tabulate (line_count r) (line_seen r);
-  setting = get_or (setting_of (val (cut setting_at 1 r))) Disable;
+  setting = unwrap_or (setting_of (val (cut setting_at 1 r))) Disable;
   prepared = prepared_from (mode_number r) (tabulate (row_count r) (row_seen r));
 }
 
@@ -134,7 +128,7 @@ unfoldable pub good : List ℕ → Bool
 good r = layout r && fine (view r)
 
 unfoldable pub decode : List ℕ → Option Store
-decode r = cond (good r) (some (view r)) none
+decode r = cond (good r) (Some (view r)) None
 
 -- ---- what accessors ask for, and what those that write leave
 

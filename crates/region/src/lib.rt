@@ -2,16 +2,16 @@
 // accessors that write.
 #![tactic(auto)]
 
-ghost use Rattle.std.specs.Prelude.{◌≡◌, ◌<◌, length, get_or};
+ghost use Rattle.std.specs.Prelude.{◌≡◌, ◌+◌, ◌*◌, ◌<◌, ◌≤◌, length, get_or};
+ghost use Rattle.word.specs.Codec.{slot};
 ghost use Rattle.target.specs.Fields.{name_below};
 ghost use Rattle.model.specs.Store.{count, entry_of, rows_in, mode_in, no_line, no_row};
 ghost use Rattle.model.specs.Rows.{name_in, row_at};
 ghost use Rattle.region.specs.Region.{view, mode_byte, Laid};
 
-use model::{Line, Lock, Loose, Packed, WriteReflog};
-use slots::{OptionLock, OptionLoose, OptionRow};
-use target::{NameNumber, ObjectNumber, OptionName, Target};
-use transaction::{Change, Edit, LogChange, OptionPackedRefs, PackedRefs, PreviousValue, RefEdit};
+use model::{Line, Lock, Loose, WriteReflog};
+use target::{NameNumber, ObjectNumber, Target};
+use transaction::{Change, Edit, LogChange, PackedRefs, PreviousValue, RefEdit};
 
 // Where each part of a store stands, in bytes: the fields of the head, the tables, and how wide their slots are.
 #[derive(Clone, Copy)]
@@ -94,10 +94,7 @@ pub fn mode(region: &[u8]) -> PackedRefs
     requires { Laid region.now }
     ensures { result ≡ mode_in (view region.now).prepared }
 {
-    let OptionPackedRefs::Mode(m) = PackedRefs::new(mode_number(region)) else {
-        return PackedRefs::DeletionsOnly;
-    };
-    m
+    PackedRefs::try_from(mode_number(region)).unwrap_or(PackedRefs::DeletionsOnly)
 }
 
 pub fn count_rows(region: &[u8]) -> usize
@@ -112,27 +109,21 @@ pub fn setting(region: &[u8]) -> WriteReflog
     ensures { result ≡ (view region.now).setting }
 {
     let byte = word::get_at(region, Layout::SETTING_AT, 1);
-    match byte {
-        WriteReflog::NORMAL => WriteReflog::Normal,
-        WriteReflog::ALWAYS => WriteReflog::Always,
-        _ => WriteReflog::Disable,
-    }
+    WriteReflog::try_from(byte).unwrap_or(WriteReflog::Disable)
 }
 
 pub fn packed_lock(region: &[u8]) -> Lock
     requires { Laid region.now }
     ensures { result ≡ (view region.now).packed_lock }
 {
-    let OptionLock::Lock(l) = slots::lock_from(word::get_at(region, Layout::PACKED_LOCK, 1)) else {
-        return Lock::Free;
-    };
-    l
+    let byte = word::get_at(region, Layout::PACKED_LOCK, 1);
+    Lock::try_from(byte).unwrap_or(Lock::Free)
 }
 
 // ---- names and values
 
 // The name of a number, from all 64 bits that a caller passed, if it is registered.
-pub fn known(region: &[u8], number: u64) -> OptionName
+pub fn known(region: &[u8], number: u64) -> Option<NameNumber>
     requires { Laid region.now }
     ensures { result ≡ name_below (count (view region.now)) number }
 {
@@ -145,10 +136,19 @@ pub fn name_at(region: &[u8], n: NameNumber) -> &[u8]
     requires n_bound { n.0 < count (view region.now) }
     ensures { result.now ≡ (entry_of (view region.now) n).name }
 {
-    let a = Layout::NAMES + (n.0 as usize) * Layout::NAME_WIDTH;
+    let a = Layout::NAMES + n.place() * Layout::NAME_WIDTH;
     let b = a + 1;
     let e = b + (region[a] as usize);
     &region[b..e]
+}
+
+// Slot i of a table whose slots are `width` bytes wide, as that stretch of the region.
+fn slot(region: &[u8], base: usize, width: usize, i: usize) -> &[u8]
+    requires { base + i * width + width ≤ length region.now }
+    ensures { result.now ≡ slot base width i region.now }
+{
+    let at = base + i * width;
+    &region[at..at + width]
 }
 
 pub fn loose_at(region: &[u8], n: NameNumber) -> Loose
@@ -156,22 +156,17 @@ pub fn loose_at(region: &[u8], n: NameNumber) -> Loose
     requires n_bound { n.0 < count (view region.now) }
     ensures { result ≡ (entry_of (view region.now) n).loose }
 {
-    let a = Layout::LOOSES + (n.0 as usize) * Layout::LOOSE_WIDTH;
-    let e = a + Layout::LOOSE_WIDTH;
-    let OptionLoose::Loose(v) = slots::get_loose(&region[a..e]) else {
-        return Loose::None;
-    };
-    v
+    let slot = slot(region, Layout::LOOSES, Layout::LOOSE_WIDTH, n.place());
+    slots::get_loose(slot).unwrap_or(Loose::None)
 }
 
-pub fn packed_at(region: &[u8], n: NameNumber) -> Packed
+pub fn packed_at(region: &[u8], n: NameNumber) -> Option<ObjectNumber>
     requires laid { Laid region.now }
     requires n_bound { n.0 < count (view region.now) }
     ensures { result ≡ (entry_of (view region.now) n).packed }
 {
-    let a = Layout::PACKEDS + (n.0 as usize) * Layout::PACKED_WIDTH;
-    let e = a + Layout::PACKED_WIDTH;
-    slots::get_packed(&region[a..e])
+    let slot = slot(region, Layout::PACKEDS, Layout::PACKED_WIDTH, n.place());
+    slots::get_packed(slot)
 }
 
 pub fn lock_at(region: &[u8], n: NameNumber) -> Lock
@@ -179,12 +174,8 @@ pub fn lock_at(region: &[u8], n: NameNumber) -> Lock
     requires n_bound { n.0 < count (view region.now) }
     ensures { result ≡ (entry_of (view region.now) n).lock }
 {
-    let a = Layout::LOCKS + (n.0 as usize) * Layout::LOCK_WIDTH;
-    let e = a + Layout::LOCK_WIDTH;
-    let OptionLock::Lock(l) = slots::get_lock(&region[a..e]) else {
-        return Lock::Free;
-    };
-    l
+    let slot = slot(region, Layout::LOCKS, Layout::LOCK_WIDTH, n.place());
+    slots::get_lock(slot).unwrap_or(Lock::Free)
 }
 
 // What stands past the rows, where nothing reads.
@@ -204,12 +195,8 @@ pub fn row_at(region: &[u8], i: usize) -> Edit
     requires i_in_bounds { i < length (rows_in (view region.now).prepared) }
     ensures { result ≡ row_at (rows_in (view region.now).prepared) i }
 {
-    let a = Layout::ROWS + i * Layout::ROW_WIDTH;
-    let e = a + Layout::ROW_WIDTH;
-    let OptionRow::Row(r) = slots::get_row(&region[a..e]) else {
-        return no_row();
-    };
-    r
+    let slot = slot(region, Layout::ROWS, Layout::ROW_WIDTH, i);
+    slots::get_row(slot).unwrap_or(no_row())
 }
 
 pub fn row_name(region: &[u8], i: usize) -> NameNumber
@@ -217,9 +204,7 @@ pub fn row_name(region: &[u8], i: usize) -> NameNumber
     requires i_in_bounds { i < length (rows_in (view region.now).prepared) }
     ensures { result ≡ name_in (row_at (rows_in (view region.now).prepared) i) }
 {
-    let row = row_at(region, i);
-    let update = row.update;
-    update.name
+    row_at(region, i).update.name
 }
 
 pub fn line_at(region: &[u8], i: usize) -> Line
@@ -227,9 +212,7 @@ pub fn line_at(region: &[u8], i: usize) -> Line
     requires i_in_bounds { i < length (view region.now).lines }
     ensures { result ≡ get_or (view region.now).lines i no_line }
 {
-    let a = Layout::LINES + i * Layout::LINE_WIDTH;
-    let e = a + Layout::LINE_WIDTH;
-    slots::get_line(&region[a..e])
+    slots::get_line(slot(region, Layout::LINES, Layout::LINE_WIDTH, i))
 }
 
 pub fn line_name(region: &[u8], i: usize) -> NameNumber
@@ -237,6 +220,5 @@ pub fn line_name(region: &[u8], i: usize) -> NameNumber
     requires i_in_bounds { i < length (view region.now).lines }
     ensures { result ≡ (get_or (view region.now).lines i no_line).name }
 {
-    let line = line_at(region, i);
-    line.name
+    line_at(region, i).name
 }

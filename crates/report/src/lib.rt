@@ -1,121 +1,101 @@
-// What the programs write: a line for each difference, and one at the end.
+// What the program writes: a line for each difference, and one at the end.
 #![tactic(auto)]
 
-use notes::{Note, Notes};
+ghost use Rattle.std.specs.Prelude.{◌≡◌, ◌≢◌, ◌≤◌, true, false, OnOk};
 
-fn say_where(notes: &Notes, what: &[u8]) {
-    say::number(b"case ", notes[Note::CASES]);
-    say::number(b", line ", notes[Note::PLACE]);
-    say::text(b", ");
-    say::text(what);
+use std::fmt::Display;
+use std::io;
+
+// Where in the file the program is, and what was counted so far.
+#[derive(Drop)]
+pub struct Report<R> {
+    rt: R,
+
+    // The line's place in the file, from 1.
+    pub line: u64,
+
+    // How many cases have ended, and how many of these differ.
+    pub cases: u64,
+    pub differ: u64,
+
+    // A difference was seen since the last case ended.
+    pub differs: bool,
 }
 
-fn say_both(expected: u64, found: u64) {
-    say::number(b": expected ", expected);
-    say::number(b", found ", found);
-    say::end();
-}
-
-// A number is the recorded one, or the case differs.
-pub fn same(notes: &mut Notes, what: &[u8], expected: u64, found: u64) {
-    if expected != found {
-        say_where(notes, what);
-        say_both(expected, found);
-        notes[Note::SEEN] = 1;
-    }
-}
-
-// The same of something that has a place: the place is said too.
-pub fn same_at(notes: &mut Notes, what: &[u8], place: u64, expected: u64, found: u64) {
-    if expected != found {
-        say_where(notes, what);
-        say::number(b" ", place);
-        say_both(expected, found);
-        notes[Note::SEEN] = 1;
-    }
-}
-
-// The line is not one of the format, or not here.
-pub fn fault(notes: &mut Notes, what: &[u8]) {
-    say_where(notes, what);
-    say::end();
-    notes[Note::SEEN] = 1;
-}
-
-// What was seen since the last case ended counts as one case that differs.
-pub fn settle(notes: &mut Notes) {
-    if notes[Note::SEEN] != 0 {
-        notes::count(notes, Note::DIFFER);
-        notes[Note::SEEN] = 0;
-    }
-}
-
-// The file is at its end.
-pub fn end(notes: &mut Notes) {
-    settle(notes);
-    say::number(b"", notes[Note::CASES]);
-    say::number(b" cases replayed, ", notes[Note::DIFFER]);
-    say::text(b" differ\n");
-}
-
-// ---- the answers of calls
-
-// A word of a table, in which each has a space behind it.
-fn say_word(table: &[u8], word: u64) {
-    let mut at: u64 = 0;
-    let mut i: usize = 0;
-    while i < table.len() {
-        if table[i] == b' ' {
-            at = std::num::wrapping_add_u64(at, 1);
-        } else if at == word {
-            let e = i + 1;
-            say::text(&table[i..e]);
+impl<R: Print> Report<R> {
+    pub fn new(rt: R) -> Report<R>
+        ensures cases { result.cases ≡ 0 }
+        ensures differ { result.differ ≡ 0 }
+        ensures differs { result.differs ≡ false }
+    {
+        Report {
+            rt,
+            line: 0,
+            cases: 0,
+            differ: 0,
+            differs: false,
         }
-        i += 1;
     }
-}
 
-// A number that a call with these two first numbers gave is the one that it was to give, or the case differs. Place 16 is the number
-// that it returned.
-pub fn gave(notes: &mut Notes, call: u64, a: u64, b: u64, place: u64, expected: u64, found: u64) {
-    if expected != found {
-        say_where(notes, b"");
-        say_word(
-            b"start load_loose load_packed place_lock lift_lock commit rollback name_bytes read_name read_line read_row add_name prepare ",
-            call,
-        );
-        say_place(a, b, place);
-        say_both(expected, found);
-        notes[Note::SEEN] = 1;
+    // The next line of the file is looked at.
+    pub fn next_line(&mut self)
+        ensures later { self.old.line ≤ self.new.line }
+        ensures counts { self.new ≡ record self.old { line = self.new.line } }
+    {
+        self.line = self.line.saturating_add(1);
     }
-}
 
-fn say_place(a: u64, b: u64, place: u64) {
-    say::number(b" ", a);
-    say::number(b" ", b);
-    if place < 16 {
-        say::number(b", place ", place);
+    // A number is the recorded one, or the case differs.
+    pub fn same(&mut self, what: impl Display + Drop, expected: u64, found: u64) -> io::Result<()>
+        ensures equal { expected ≡ found → self.new ≡ self.old }
+        ensures other { expected ≢ found → OnOk result (self.new ≡ record self.old { differs = true }) }
+    {
+        if expected != found {
+            self.fault(format_args!("{what}: expected {expected}, found {found}"))?;
+        }
+        Ok(())
     }
-}
 
-// The line is the last call's answer: its number, and places 0 to 4. The others are 0.
-pub fn answer(notes: &mut Notes) {
-    let expected = notes::field(notes, 0);
-    let found = notes[Note::NUMBER];
-    same(notes, b"number", expected, found);
-    let mut i: u64 = 0;
-    while i < 16 {
-        answer_place(notes, i);
-        i += 1;
+    // The case differs: the line is not one of the format, or not here, or something is otherwise than it says.
+    pub fn fault(&mut self, what: impl Display + Drop) -> io::Result<()>
+        ensures { OnOk result (self.new ≡ record self.old { differs = true }) }
+    {
+        let rt = &self.rt;
+        let cases = self.cases;
+        let line = self.line;
+        println!(rt; "case {cases}, line {line}, {what}")?;
+        self.differs = true;
+        Ok(())
     }
-}
 
-fn answer_place(notes: &mut Notes, i: u64) {
-    let found = notes::place(notes, i);
-    if i < 5 {
-        let expected = notes::field(notes, 1 + i as usize);
-        same_at(notes, b"place", i, expected, found);
-    } else {
-        same_at(notes, b"place", i, 0, found);
+    // What was seen since the last case ended counts as one case that differs.
+    fn settle(&mut self)
+        ensures settled { self.new.differs ≡ false }
+        ensures none { self.old.differs ≡ false → self.new ≡ self.old }
+        ensures cases { self.new.cases ≡ self.old.cases }
+    {
+        if self.differs {
+            self.differ = self.differ.saturating_add(1);
+            self.differs = false;
+        }
+    }
+
+    // A case has ended.
+    pub fn close(&mut self)
+        ensures settled { self.new.differs ≡ false }
+        ensures more { self.old.cases ≤ self.new.cases }
+        ensures none { self.old.differs ≡ false → self.new.differ ≡ self.old.differ }
+    {
+        self.settle();
+        self.cases = self.cases.saturating_add(1);
+    }
+
+    // The file is at its end.
+    pub fn end(&mut self) -> io::Result<()> {
+        self.settle();
+        let rt = &self.rt;
+        let cases = self.cases;
+        let differ = self.differ;
+        println!(rt; "{cases} cases replayed, {differ} differ")
     }
 }

@@ -1,5 +1,4 @@
 pub mod Laws
 pub mod Says
-pub mod Lines
 pub mod Gather
 pub mod Named

@@ -95,5 +95,5 @@ pub seen_not : (r : List ℕ) (i : ℕ) (a : Bool) (flags : List Bool) → a ≡
     → Stood (view r) i false flags
 seen_not r i a flags ea t = record { test = row_own (view r) i a ea t; more = λ e. absurd (false≢true e) }
 
-pub seen_next : (s : Store) (i : ℕ) (ok : Bool) (flags : List Bool) → Stood s i ok flags → ok ≡ true → Flags (seen (rows_in s.prepared) (i + 1)) flags
-seen_next s i ok flags h t = h.more t
+pub seen_next : (s : Store) (i : ℕ) (ok : Bool) (flags : List Bool) → Stood s i ok flags → not ok ≡ false → Flags (seen (rows_in s.prepared) (i + 1)) flags
+seen_next s i ok flags h t = h.more (not-false ok t)

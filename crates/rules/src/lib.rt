@@ -12,9 +12,9 @@ ghost use Rattle.region.specs.Region.{view, Laid};
 ghost use Rattle.rules.specs.Tests.{name_test};
 ghost use Rattle.rules.specs.Marks.{mark_of, Marked, seen, Stood};
 
-use model::{Line, Loose, Packed};
-use target::{NameNumber, ObjectNumber, OptionTarget, Target};
-use transaction::{Edit, ParentIndex};
+use model::{Line, Loose};
+use target::{NameNumber, ObjectNumber, Target};
+use transaction::Edit;
 
 // ---- names and values
 
@@ -27,66 +27,55 @@ pub fn target_ok(n: usize, t: Target) -> bool
     }
 }
 
-pub fn option_ok(n: usize, t: OptionTarget) -> bool
+pub fn option_ok(n: usize, t: Option<Target>) -> bool
     ensures { result ≡ fine_option n t }
 {
-    let OptionTarget::Present(target) = t else {
-        return true;
-    };
-    target_ok(n, target)
+    match t {
+        None => true,
+        Some(target) => target_ok(n, target),
+    }
 }
 
 fn loose_ok(n: usize, v: Loose) -> bool
     ensures { result ≡ fine_loose n v }
 {
     match v {
-        Loose::None => true,
+        Loose::None | Loose::Broken => true,
         Loose::Target(t) => target_ok(n, t),
-        Loose::Broken => true,
     }
 }
 
-fn packed_ok(name: &[u8], v: Packed) -> bool
+fn packed_ok(name: &[u8], v: Option<ObjectNumber>) -> bool
     ensures { result ≡ fine_packed name.now v }
 {
     match v {
-        Packed::None => true,
-        Packed::Object(oid) => {
-            if oid.0 == ObjectNumber::NULL {
-                return false;
-            }
-            names::is_packable(name)
-        }
+        None => true,
+        Some(oid) => oid.0 != ObjectNumber::NULL && names::is_packable(name),
     }
 }
 
+#[tactic(auto, unfolding(model::specs::Fine::fine_entry))]
 fn entry_ok(region: &[u8], n: NameNumber) -> bool
     requires laid { Laid region.now }
     requires n_bound { n.0 < count (view region.now) }
     ensures { result ≡ fine_entry (count (view region.now)) (entry_of (view region.now) n) }
 {
     let name = region::name_at(region, n);
-    if !names::is_name(name) {
-        return false;
-    }
-    let count = region::count_names(region);
-    if !loose_ok(count, region::loose_at(region, n)) {
-        return false;
-    }
-    packed_ok(name, region::packed_at(region, n))
+    names::is_name(name)
+        && loose_ok(region::count_names(region), region::loose_at(region, n))
+        && packed_ok(name, region::packed_at(region, n))
 }
 
 // ---- names are apart: by their marks first, since two names that have other marks are no pair
 
 // A number that every byte of a name enters, so that names which begin alike, or end alike, still have other marks as a rule.
+#[tactic(auto, unfolding(crate::specs::Marks::mark_of, crate::specs::Marks::mark_on))]
 fn mark(name: &[u8]) -> u64
     ensures { result ≡ mark_of name.now }
 {
     let mut acc: u64 = 0;
-    let mut i: usize = 0;
-    while i < name.len() {
-        acc = acc % 4294967296 * 257 + (name[i] as u64);
-        i += 1;
+    for &byte in name {
+        acc = acc % 4294967296 * 257 + (byte as u64);
     }
     acc
 }
@@ -96,11 +85,8 @@ fn mark_names(region: &[u8], marks: &mut [u64])
     requires marks_len { length marks.old ≡ 256 }
     ensures { Marked (view region.now) marks.new }
 {
-    let count = region::count_names(region);
-    let mut n: usize = 0;
-    while n < count {
+    for n in 0..region::count_names(region) {
         marks[n] = mark(region::name_at(region, NameNumber::at(n)));
-        n += 1;
     }
 }
 
@@ -110,11 +96,11 @@ fn same_names(region: &[u8], marks: &[u64], n: usize, m: usize) -> bool
     requires n_bound { (n < count (view region.now)) × (m < count (view region.now)) }
     ensures { not result ≡ apart_names (view region.now) n m }
 {
-    if marks[n] != marks[m] {
-        return false;
-    }
-    let name = region::name_at(region, NameNumber::at(n));
-    word::same(name, region::name_at(region, NameNumber::at(m)))
+    marks[n] == marks[m]
+        && word::same(
+            region::name_at(region, NameNumber::at(n)),
+            region::name_at(region, NameNumber::at(m)),
+        )
 }
 
 // No earlier name has the same bytes.
@@ -124,28 +110,22 @@ fn name_apart(region: &[u8], marks: &[u64], n: usize) -> bool
     requires n_bound { n < count (view region.now) }
     ensures { result ≡ below n (apart_names (view region.now) n) }
 {
-    let mut m: usize = 0;
-    while m < n {
-        let same = same_names(region, marks, n, m);
-        if same {
+    for m in 0..n {
+        if same_names(region, marks, n, m) {
             return false;
-        } else {
-            m += 1;
         }
     }
     true
 }
 
+#[tactic(auto, unfolding(crate::specs::Tests::name_test))]
 fn name_ok(region: &[u8], marks: &[u64], n: usize) -> bool
     requires laid { Laid region.now }
     requires marked { Marked (view region.now) marks.now }
     requires n_bound { n < count (view region.now) }
     ensures { result ≡ name_test (view region.now) n }
 {
-    if !entry_ok(region, NameNumber::at(n)) {
-        return false;
-    }
-    name_apart(region, marks, n)
+    entry_ok(region, NameNumber::at(n)) && name_apart(region, marks, n)
 }
 
 fn marked_fine(region: &[u8], marks: &[u64]) -> bool
@@ -153,13 +133,8 @@ fn marked_fine(region: &[u8], marks: &[u64]) -> bool
     requires marked { Marked (view region.now) marks.now }
     ensures { result ≡ fine_names (view region.now) }
 {
-    let count = region::count_names(region);
-    let mut n: usize = 0;
-    while n < count {
-        let ok = name_ok(region, marks, n);
-        if ok {
-            n += 1;
-        } else {
+    for n in 0..region::count_names(region) {
+        if !name_ok(region, marks, n) {
             return false;
         }
     }
@@ -177,18 +152,11 @@ pub fn names_fine(region: &[u8]) -> bool
 
 // ---- lines
 
+#[tactic(auto, unfolding(model::specs::Fine::fine_line))]
 fn line_ok(n: usize, l: Line) -> bool
     ensures { result ≡ fine_line n l }
 {
-    let name = l.name;
-    if name.place() >= n {
-        return false;
-    }
-    let new = l.new;
-    if new.0 == ObjectNumber::NULL {
-        return false;
-    }
-    l.committer != 0
+    l.name.place() < n && l.new.0 != ObjectNumber::NULL && l.committer != 0
 }
 
 pub fn lines_fine(region: &[u8]) -> bool
@@ -196,13 +164,8 @@ pub fn lines_fine(region: &[u8]) -> bool
     ensures { result ≡ fine_lines (view region.now) }
 {
     let count = region::count_names(region);
-    let lines = region::count_lines(region);
-    let mut i: usize = 0;
-    while i < lines {
-        let ok = line_ok(count, region::line_at(region, i));
-        if ok {
-            i += 1;
-        } else {
+    for i in 0..region::count_lines(region) {
+        if !line_ok(count, region::line_at(region, i)) {
             return false;
         }
     }
@@ -212,12 +175,12 @@ pub fn lines_fine(region: &[u8]) -> bool
 // ---- rows
 
 // The parent is an earlier row, or none.
-fn parent_ok(i: usize, parent: ParentIndex) -> bool
+fn parent_ok(i: usize, parent: Option<usize>) -> bool
     ensures { result ≡ fine_parent i parent }
 {
     match parent {
-        ParentIndex::NoParent => true,
-        ParentIndex::Parent(j) => j < i,
+        None => true,
+        Some(j) => j < i,
     }
 }
 
@@ -228,14 +191,13 @@ fn count_ancestors(region: &[u8], i: usize) -> usize
     requires upward { Upward (i + 1) (rows_in (view region.now).prepared) }
     ensures { (result ≡ length (ancestors (rows_in (view region.now).prepared) i)) × (result ≤ i) }
 {
-    let row = region::row_at(region, i);
-    let parent = row.parent_index;
-    let ParentIndex::Parent(j) = parent else {
-        return 0;
-    };
-    1 + count_ancestors(region, j)
+    match region::row_at(region, i).parent_index {
+        None => 0,
+        Some(j) => 1 + count_ancestors(region, j),
+    }
 }
 
+#[tactic(auto, unfolding(model::specs::Fine::fine_row))]
 fn row_ok(region: &[u8], i: usize) -> bool
     requires laid { Laid region.now }
     requires i_in_bounds { i < length (rows_in (view region.now).prepared) }
@@ -244,23 +206,19 @@ fn row_ok(region: &[u8], i: usize) -> bool
 {
     let count = region::count_names(region);
     let row = region::row_at(region, i);
-    let update = row.update;
-    let name = update.name;
-    if name.place() >= count {
+    if row.update.name.place() >= count {
         return false;
     }
-    if update.deref {
+    if row.update.deref {
         return false;
     }
-    let change = update.change;
-    if !option_ok(count, change.previous_value()) {
+    if !option_ok(count, row.update.change.previous_value()) {
         return false;
     }
-    if !option_ok(count, change.new_value()) {
+    if !option_ok(count, row.update.change.new_value()) {
         return false;
     }
-    let parent = row.parent_index;
-    if !parent_ok(i, parent) {
+    if !parent_ok(i, row.parent_index) {
         return false;
     }
     count_ancestors(region, i) <= Edit::ANCESTORS
@@ -277,8 +235,7 @@ fn row_stands(region: &[u8], i: usize, flags: &mut [bool]) -> bool
     if !row_ok(region, i) {
         return false;
     }
-    let name = region::row_name(region, i);
-    let n = name.place();
+    let n = region::row_name(region, i).place();
     if flags[n] {
         return false;
     }
@@ -291,13 +248,8 @@ fn flagged_rows_fine(region: &[u8], flags: &mut [bool]) -> bool
     requires flags { Flags nowhere flags.old }
     ensures { result ≡ fine_rows (view region.now) }
 {
-    let rows = region::count_rows(region);
-    let mut i: usize = 0;
-    while i < rows {
-        let ok = row_stands(region, i, flags);
-        if ok {
-            i += 1;
-        } else {
+    for i in 0..region::count_rows(region) {
+        if !row_stands(region, i, flags) {
             return false;
         }
     }

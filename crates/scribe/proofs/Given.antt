@@ -1,9 +1,8 @@
 -- The committers given: where their tests stop, one committer more, and how long their bytes are. Assumes nothing.
+use Rattle.std.specs.Prelude.{Option, Some, None, unwrap_or}
 use mathlib.Core.Path.{◌≡◌, refl, sym, ap, ◌∙◌}
 use mathlib.Core.Bool.{Bool, true, false, ◌&&◌, not, and-true, and-false, false≢true}
 use mathlib.Core.List.{List, [], ◌∷◌, ◌++◌}
-use mathlib.Core.Option
-use mathlib.Core.Option.{Option, none, some}
 use Prim.Native.Nat.{ℕ, suc, ◌+◌, ◌-◌, ◌*◌, ◌<◌, ◌≤◌}
 use native.Mathlib.Omega.{arith}
 use lib.ListN.{length, take, drop, get_or, length-drop, length-append}
@@ -27,8 +26,8 @@ use Rattle.scribe.proofs.Tests.{writable_by}
 
 -- one committer before those given
 abbrev with_first : Committer → Option (List Committer) → Option (List Committer)
-with_first c none = none
-with_first c (some cs) = some (c ∷ cs)
+with_first c None = None
+with_first c (Some cs) = Some (c ∷ cs)
 
 -- the first committer given, and the others
 abbrev pub first : List ℕ → List ℕ → List ℕ → Committer
@@ -38,9 +37,9 @@ abbrev pub others : List ℕ → List ℕ → List ℕ → Option (List Committe
 others n l s = committers_given (drop 1 n) (drop 1 l) (drop (get_or l 0 0) s)
 
 -- the format says the same by a bind
-with_first_lem : (c : Committer) (o : Option (List Committer)) → (o >>= λ cs. some (c ∷ cs)) ≡ with_first c o
-with_first_lem c none = refl
-with_first_lem c (some cs) = refl
+with_first_lem : (c : Committer) (o : Option (List Committer)) → (o >>= λ cs. Some (c ∷ cs)) ≡ with_first c o
+with_first_lem c None = refl
+with_first_lem c (Some cs) = refl
 
 -- a first number, a first length and names that are as long: one committer more
 given_more : (n l s : List ℕ) → (length n ≡ 0 → ⊥) → (length l ≡ 0 → ⊥) → get_or l 0 0 ≤ length s
@@ -52,7 +51,7 @@ given_more (x ∷ n) (k ∷ l) s p q h =
     rw (le-leb k (length s) h) (with_first_lem (record { number = x; name = take k s }) (committers_given n l (drop k s)))
 
 -- names that are too short give none
-given_short : (n l s : List ℕ) → length s < get_or l 0 0 → committers_given n l s ≡ none
+given_short : (n l s : List ℕ) → length s < get_or l 0 0 → committers_given n l s ≡ None
 unfolding committers_given split
 given_short [] [] s h = absurd (omega arith)
 given_short [] (k ∷ l) s h = refl
@@ -60,7 +59,7 @@ given_short (x ∷ n) [] s h = refl
 given_short (x ∷ n) (k ∷ l) s h = rw (lt-leb k (length s) h)
 
 -- a number with no length gives none
-given_lacking : (n l s : List ℕ) → (length n ≡ 0 → ⊥) → length l ≡ 0 → committers_given n l s ≡ none
+given_lacking : (n l s : List ℕ) → (length n ≡ 0 → ⊥) → length l ≡ 0 → committers_given n l s ≡ None
 unfolding committers_given
 given_lacking [] l s p q = absurd (p refl)
 given_lacking (x ∷ n) [] s p q = refl
@@ -86,8 +85,8 @@ follows_is last c k e =
 rising_with : (last : ℕ) (c : Committer) (o : Option (List Committer))
     → given_rising last (with_first c o) ≡ (follows last c && given_rising c.number o)
 unfolding rising
-rising_with last c none = sym (and-false (follows last c))
-rising_with last c (some cs) = refl
+rising_with last c None = sym (and-false (follows last c))
+rising_with last c (Some cs) = refl
 
 -- no numbers, no lengths: no names may be left
 pub none_given : (n l s : List ℕ) (last : ℕ) → length n ≡ 0 → length l ≡ 0
@@ -149,19 +148,19 @@ module _ (n l s : List ℕ) (last : ℕ) where
 -- ---- what is given is written: one committer more
 
 -- none is not some
-is_some_lem : {A : Type 0} (o : Option A) → o ≡ none → is_some o ≡ true → ⊥
+is_some_lem : {A : Type 0} (o : Option A) → o ≡ None → is_some o ≡ true → ⊥
 is_some_lem o e h = false≢true (rw e at h)
 
 -- one more is given only where the others are
 with_some : (c : Committer) (o : Option (List Committer)) → is_some (with_first c o) ≡ true → is_some o ≡ true
-with_some c none e = e
-with_some c (some cs) e = refl
+with_some c None e = e
+with_some c (Some cs) e = refl
 
 -- the bytes of one more
 collected : (c : Committer) (o : Option (List Committer)) → is_some o ≡ true
-    → collect listed (Option.get_or (with_first c o) []) ≡ listed c ++ collect listed (Option.get_or o [])
-collected c none e = absurd (false≢true e)
-collected c (some cs) e = refl
+    → collect listed (unwrap_or (with_first c o) []) ≡ listed c ++ collect listed (unwrap_or o [])
+collected c None e = absurd (false≢true e)
+collected c (Some cs) e = refl
 
 -- no numbers, no bytes
 pub no_content : (n l s : List ℕ) → length n ≡ 0 → [] ≡ content_from n l s
@@ -196,16 +195,16 @@ module _ (n l s : List ℕ) (p : length n ≡ 0 → ⊥) (given : is_some (commi
   pub content_more : content_from n l s ≡ listed (first n l s) ++ content_from (drop 1 n) (drop 1 l) (drop (get_or l 0 0) s)
   unfolding content_from
   content_more =
-      ap (λ (o : Option (List Committer)). collect listed (Option.get_or o [])) split_given
+      ap (λ (o : Option (List Committer)). collect listed (unwrap_or o [])) split_given
       ∙ collected (first n l s) (others n l s) others_given
 
 -- ---- how many, and how long
 
 -- one more is counted
 counted : (c : Committer) (o : Option (List Committer)) → is_some o ≡ true
-    → length (Option.get_or (with_first c o) []) ≡ suc (length (Option.get_or o []))
-counted c none e = absurd (false≢true e)
-counted c (some cs) e = refl
+    → length (unwrap_or (with_first c o) []) ≡ suc (length (unwrap_or o []))
+counted c None e = absurd (false≢true e)
+counted c (Some cs) e = refl
 
 -- no numbers, no names
 pub none_left : (l s : List ℕ) → is_some (committers_given [] l s) ≡ true → s ≡ []
@@ -227,7 +226,7 @@ as_many [] (k ∷ l) s g = refl
 as_many (x ∷ n) l s g =
     let p : length (x ∷ n) ≡ 0 → ⊥ = no_first x n in
     let o : is_some (others (x ∷ n) l s) ≡ true = others_given (x ∷ n) l s p g in
-    ap (λ (o : Option (List Committer)). length (Option.get_or o [])) (split_given (x ∷ n) l s p g)
+    ap (λ (o : Option (List Committer)). length (unwrap_or o [])) (split_given (x ∷ n) l s p g)
     ∙ counted (first (x ∷ n) l s) (others (x ∷ n) l s) o
     ∙ ap suc (as_many n (drop 1 l) (drop (get_or l 0 0) s) o)
 
@@ -250,8 +249,8 @@ length_content (x ∷ n) l s g =
 
 -- committers in bounds are given
 rising_some : (last : ℕ) (o : Option (List Committer)) → given_rising last o ≡ true → is_some o ≡ true
-rising_some last none e = e
-rising_some last (some cs) e = refl
+rising_some last None e = e
+rising_some last (Some cs) e = refl
 
 -- 32 bytes for each number at most
 pub names_short : (n l s : List ℕ) (last : ℕ) → given_rising last (committers_given n l s) ≡ true → length s ≤ 32 * length n
@@ -274,9 +273,9 @@ module _ (v log mode site : ℕ) where
   -- the tests of settings, where committers are given or not
   given_writable_lem : (o : Option (List Committer))
       → given_writable v (settings_given log mode site o)
-      ≡ (numbers_fit v log mode site && (leb (length (Option.get_or o [])) 16 && given_rising 0 o))
-  given_writable_lem none = sym (and-false (numbers_fit v log mode site))
-  given_writable_lem (some cs) = writable_by v log mode site cs
+      ≡ (numbers_fit v log mode site && (leb (length (unwrap_or o [])) 16 && given_rising 0 o))
+  given_writable_lem None = sym (and-false (numbers_fit v log mode site))
+  given_writable_lem (Some cs) = writable_by v log mode site cs
 
   module _ (n l s : List ℕ) where
     -- the numbers are counted for the committers
@@ -291,24 +290,10 @@ module _ (v log mode site : ℕ) where
         go false h = and-false (leb (length (committers_from n l s)) 16) ∙ sym (and-false (leb (length n) 16))
 
     -- the tests that the code makes, in its order
-    tests : given_writable v (settings_given log mode site (committers_given n l s))
+    pub tests : given_writable v (settings_given log mode site (committers_given n l s))
         ≡ (numbers_fit v log mode site && (leb (length n) 16 && given_rising 0 (committers_given n l s)))
     tests =
         given_writable_lem (committers_given n l s) ∙ ap (λ (b : Bool). numbers_fit v log mode site && b) many_is
-
-    -- a number is out of bounds
-    pub numbers_off : (t : Bool) → t ≡ numbers_fit v log mode site → not t ≡ true
-        → false ≡ given_writable v (settings_given log mode site (committers_given n l s))
-    numbers_off t e h = sym (tests ∙ rw (← e, not-true t h))
-
-    -- more than 16 committers
-    pub too_many : 16 < length n → false ≡ given_writable v (settings_given log mode site (committers_given n l s))
-    too_many h = sym (tests ∙ rw (lt-leb (length n) 16 h) (and-false (numbers_fit v log mode site)))
-
-    -- the committers decide
-    pub all_tested : (t r : Bool) → t ≡ numbers_fit v log mode site → not t ≡ false → length n ≤ 16
-        → r ≡ given_rising 0 (committers_given n l s) → r ≡ given_writable v (settings_given log mode site (committers_given n l s))
-    all_tested t r e f h k = k ∙ sym (tests ∙ rw (← e, not-false t f, le-leb (length n) 16 h))
 
     module _ (w : given_writable v (settings_given log mode site (committers_given n l s)) ≡ true) where
       -- the tests of the committers pass

@@ -1,30 +1,25 @@
 -- What the code tells of writing a record, and the committers that it is given.
-use Rattle.std.specs.Prelude.{◌≡◌, Bool, true, false, ◌||◌, cond, List, [], ◌∷◌, ◌++◌, ℕ, ◌+◌, ◌*◌, length, eqb}
-use Rattle.std.proofs.Math.Option.{Option, none, some, get_or}
+use Rattle.model.specs.declared.Refusal.{Refusal}
+use Rattle.std.specs.Prelude.{◌≡◌, Bool, true, false, ◌||◌, cond, List, [], ◌∷◌, ◌++◌, ℕ, ◌+◌, ◌*◌, length, eqb, Option, Some, None, Result, Ok, Err, unwrap_or}
 use Rattle.word.specs.Be.{be}
 use Rattle.word.specs.Codec.{is_some}
-use Rattle.model.specs.declared.Refusal.TheVariants.{MalformedRecord, UnknownVersion, ShortBuffer}
 use Rattle.model.specs.Basic.{every, collect}
-use Rattle.model.specs.Outcome.{Outcome}
-use Rattle.model.specs.Outcome.Outcome.{refuse, pass}
 use Rattle.settings.specs.Format.{Committer, Settings, within, rising, is_version, has_site, entry, writable, listed}
 use Rattle.settings.specs.Lent.{committers_given, settings_given, fitted, afterwards}
-use Rattle.scribe.specs.declared.Writing.{Writing}
-use Rattle.scribe.specs.declared.Writing.TheVariants.{Unknown, Malformed, Short, Written}
 
 -- committers were given, and they are in bounds
 abbrev pub given_rising : ℕ → Option (List Committer) → Bool
-given_rising last none = false
-given_rising last (some cs) = rising last cs
+given_rising last None = false
+given_rising last (Some cs) = rising last cs
 
 -- settings were given, and they can be written in this version
 abbrev pub given_writable : ℕ → Option Settings → Bool
-given_writable v none = false
-given_writable v (some s) = writable v s
+given_writable v None = false
+given_writable v (Some s) = writable v s
 
 -- the committers given, and their bytes in a record
 abbrev pub committers_from : List ℕ → List ℕ → List ℕ → List Committer
-committers_from numbers lengths names = get_or (committers_given numbers lengths names) []
+committers_from numbers lengths names = unwrap_or (committers_given numbers lengths names) []
 
 unfoldable pub content_from : List ℕ → List ℕ → List ℕ → List ℕ
 content_from numbers lengths names = collect listed (committers_from numbers lengths names)
@@ -63,17 +58,11 @@ pub record Ready (v log mode site : ℕ) (numbers lengths names slot : List ℕ)
   pub sized : length slot ≡ length_for v (content_length numbers names)
 
 -- the length of what is written
-abbrev pub length_in : Outcome (List ℕ) → Outcome ℕ
-length_in (refuse x) = refuse x
-length_in (pass r) = pass (length r)
-
-abbrev pub writing_outcome : Writing → Outcome ℕ
-writing_outcome Unknown = refuse UnknownVersion
-writing_outcome Malformed = refuse MalformedRecord
-writing_outcome Short = refuse ShortBuffer
-writing_outcome (Written n) = pass n
+abbrev pub length_in : Result (List ℕ) Refusal → Result ℕ Refusal
+length_in (Err x) = Err x
+length_in (Ok r) = Ok (length r)
 
 -- a write of `o` into the buffer b: what is told, and the buffer as it is left
-pub record Wrote (w : Writing) (b b' : List ℕ) (o : Outcome (List ℕ)) : Type 0 where
-  pub told : writing_outcome w ≡ length_in (fitted b o)
+pub record Wrote (w : (Result ℕ Refusal)) (b b' : List ℕ) (o : Result (List ℕ) Refusal) : Type 0 where
+  pub told : w ≡ length_in (fitted b o)
   pub left : b' ≡ afterwards b (fitted b o)

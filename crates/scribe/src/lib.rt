@@ -7,17 +7,9 @@ ghost use Rattle.settings.specs.Format.{within, entry, listed, form};
 ghost use Rattle.settings.specs.Lent.{settings_given, committers_given, write_given};
 ghost use Rattle.scribe.specs.Writing.{given_rising, given_writable, content_from, Slot, settings_from, Wrote, numbers_fit, front_bytes, length_for, Ready};
 
-use model::WriteReflog;
+use model::{Refusal, WriteReflog};
 use settings::{Heading, Record, Site, Tag};
 use transaction::PackedRefs;
-
-#[derive(Clone, Copy)]
-pub enum Writing {
-    Unknown,
-    Malformed,
-    Short,
-    Written(usize),
-}
 
 // ---- what is given
 
@@ -25,16 +17,7 @@ pub enum Writing {
 fn is_heading(number: u64, length: u64, last: u64) -> bool
     ensures { result ≡ (ltb last number && (leb number 65535 && within 1 32 length)) }
 {
-    if number <= last {
-        return false;
-    }
-    if number > Heading::MOST {
-        return false;
-    }
-    if length < 1 {
-        return false;
-    }
-    length <= (Heading::LONGEST as u64)
+    number > last && number <= Heading::MOST && length >= 1 && length <= Heading::LONGEST as u64
 }
 
 // The committers given are in bounds: as many numbers as lengths, and names of just these lengths.
@@ -63,25 +46,23 @@ fn are_committers(numbers: &[u64], lengths: &[u64], names: &[u8], last: u64) -> 
 }
 
 // The numbers given are in bounds; version 1 has no place for a site.
+#[tactic(auto, unfolding(crate::specs::Writing::numbers_fit))]
 fn are_numbers(version: u64, log: u64, mode: u64, site: u64) -> bool
     ensures { result ≡ numbers_fit version log mode site }
 {
-    if log > WriteReflog::ALWAYS {
-        return false;
-    }
-    if mode < PackedRefs::DELETIONS_ONLY {
-        return false;
-    }
-    if mode > PackedRefs::DELETIONS_AND_NON_SYMBOLIC_UPDATES_REMOVE_LOOSE_SOURCE_REFERENCE {
-        return false;
-    }
-    if version == Record::VERSION_2 {
-        return site <= Site::MOST;
-    }
-    site == Site::NONE
+    let most = if version == Record::VERSION_2 {
+        Site::MOST
+    } else {
+        Site::NONE
+    };
+    log <= WriteReflog::ALWAYS
+        && mode >= PackedRefs::DELETIONS_ONLY
+        && mode <= PackedRefs::DELETIONS_AND_NON_SYMBOLIC_UPDATES_REMOVE_LOOSE_SOURCE_REFERENCE
+        && site <= most
 }
 
 // Whether the settings given can be written.
+#[tactic(auto, using(crate::proofs::Given::tests))]
 fn is_writable(
     version: u64,
     log: u64,
@@ -93,13 +74,9 @@ fn is_writable(
 ) -> bool
     ensures { result ≡ given_writable version (settings_given log mode site (committers_given numbers.now lengths.now names.now)) }
 {
-    if !are_numbers(version, log, mode, site) {
-        return false;
-    }
-    if numbers.len() > Heading::LIMIT {
-        return false;
-    }
-    are_committers(numbers, lengths, names, 0)
+    are_numbers(version, log, mode, site)
+        && numbers.len() <= Heading::LIMIT
+        && are_committers(numbers, lengths, names, 0)
 }
 
 // ---- what is written
@@ -139,7 +116,7 @@ fn put_committer(slot: &mut [u8], number: u64, name: &[u8])
 {
     word::put_at(slot, 0, 2, number);
     word::put_at(slot, Heading::LENGTH_AT, 1, name.len() as u64);
-    word::copy(&mut slot[Heading::NAME..], name);
+    slot[Heading::NAME..].copy_from_slice(name);
 }
 
 // The committers, one after the other.
@@ -167,9 +144,10 @@ fn length_of(version: u64, content: usize) -> usize
     ensures { result ≡ length_for version content }
 {
     if version == Record::VERSION_2 {
-        return Record::LIST + content + Tag::CONTENT + Site::WIDTH;
+        Record::LIST + content + Tag::CONTENT + Site::WIDTH
+    } else {
+        Record::LIST + content
     }
-    Record::LIST + content
 }
 
 // The whole record, into a slot that is as long.
@@ -213,18 +191,18 @@ pub fn write(
     numbers: &[u64],
     lengths: &[u64],
     names: &[u8],
-) -> Writing
+) -> Result<usize, Refusal>
     ensures { Wrote result buffer.old buffer.new (write_given version (settings_given log mode site (committers_given numbers.now lengths.now names.now))) }
 {
     if !settings::is_version(version) {
-        return Writing::Unknown;
+        return Err(Refusal::UnknownVersion);
     }
     if !is_writable(version, log, mode, site, numbers, lengths, names) {
-        return Writing::Malformed;
+        return Err(Refusal::MalformedRecord);
     }
     let length = length_of(version, Heading::NAME * numbers.len() + names.len());
     if buffer.len() < length {
-        return Writing::Short;
+        return Err(Refusal::ShortBuffer);
     }
     put_record(
         &mut buffer[0..length],
@@ -236,5 +214,5 @@ pub fn write(
         lengths,
         names,
     );
-    Writing::Written(length)
+    Ok(length)
 }

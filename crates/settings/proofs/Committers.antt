@@ -1,9 +1,9 @@
 -- The committers in the content of their entry: read as they were written, written as they were read, how long they are, and where
 -- a name stands. Assumes nothing.
+use Rattle.std.specs.Prelude.{Some}
 use mathlib.Core.Path.{◌≡◌, refl, ap, ap₂, subst, ◌∙◌}
 use mathlib.Core.Bool.{Bool, true, false}
 use mathlib.Core.List.{List, [], ◌∷◌, ◌++◌, append_assoc}
-use mathlib.Core.Option.{some}
 use Prim.Native.Nat.{ℕ, zero, suc, ◌+◌, ◌*◌, ◌≤◌, ◌<◌, ◌^◌}
 use native.Mathlib.Omega.{arith}
 use lib.ListN.{length, get_or, length-append}
@@ -59,7 +59,7 @@ pieces number size name rest = simp append_assoc
 
 -- a committer that was written, and what stands behind it
 pub committer_in_lem : (last : ℕ) (c : Committer) (rest : List ℕ) → follows last c ≡ true
-    → committer_in last (listed c ++ rest) ≡ some (record { committer = c; behind = rest })
+    → committer_in last (listed c ++ rest) ≡ Some (record { committer = c; behind = rest })
 unfolding committer_in listed
 committer_in_lem last c rest h =
     let f = fine last c h in
@@ -84,7 +84,7 @@ pub record Read (last : ℕ) (r : List ℕ) (n : Named) : Type 0 where
   pub rest : Bytes n.behind
 
 -- what is read is what the writer makes of the committer
-pub committer_back : (last : ℕ) (r : List ℕ) (n : Named) → Bytes r → committer_in last r ≡ some n → Read last r n
+pub committer_back : (last : ℕ) (r : List ℕ) (n : Named) → Bytes r → committer_in last r ≡ Some n → Read last r n
 unfolding committer_in listed
 committer_back last r n b h =
     some_then (split 2 r) _ n h λ number p h₁.
@@ -101,7 +101,7 @@ committer_back last r n b h =
     ∙ s.whole in
     go c name.behind w u.rest (follows last c) refl h₃
   where
-    go : (c : Committer) (l : List ℕ) → listed c ++ l ≡ r → Bytes l → (t : Bool) → follows last c ≡ t → followed t c l ≡ some n
+    go : (c : Committer) (l : List ℕ) → listed c ++ l ≡ r → Bytes l → (t : Bool) → follows last c ≡ t → followed t c l ≡ Some n
         → Read last r n
     go c l w b false i q = absurd (none_some q)
     go c l w b true i q = subst (Read last r) (some_is q) (record { whole = w; after = i; rest = b })
@@ -111,14 +111,14 @@ committer_back last r n b h =
 -- where a byte stands, one more is read
 pub one_further : (k last : ℕ) (r : List ℕ) → 0 < length r
     → committers_in (suc k) last r
-    ≡ (committer_in last r >>= λ n. committers_in k n.committer.number n.behind >>= λ others. some (n.committer ∷ others))
+    ≡ (committer_in last r >>= λ n. committers_in k n.committer.number n.behind >>= λ others. Some (n.committer ∷ others))
 unfolding committers_in
 one_further k last [] h = absurd (omega arith)
 one_further k last (x ∷ r) h = refl
 
 -- committers that were written are read
 pub committers_in_lem : (k last : ℕ) (cs : List Committer) → length cs ≤ k → rising last cs ≡ true
-    → committers_in k last (collect listed cs) ≡ some cs
+    → committers_in k last (collect listed cs) ≡ Some cs
 unfolding committers_in rising
 committers_in_lem zero last [] h g = refl
 committers_in_lem zero last (c ∷ cs) h g = absurd (omega arith)
@@ -136,12 +136,12 @@ pub record Listed (k last : ℕ) (r : List ℕ) (cs : List Committer) : Type 0 w
   pub order : rising last cs ≡ true
 
 -- nothing is left
-at_end : (k last : ℕ) (cs : List Committer) → some [] ≡ some cs → Listed k last [] cs
+at_end : (k last : ℕ) (cs : List Committer) → Some [] ≡ Some cs → Listed k last [] cs
 unfolding rising
 at_end k last cs h = subst (Listed k last []) (some_is h) (record { whole = refl; few = omega arith; order = refl })
 
 -- what is read is what the writer makes of the committers
-pub committers_back : (k last : ℕ) (r : List ℕ) (cs : List Committer) → Bytes r → committers_in k last r ≡ some cs → Listed k last r cs
+pub committers_back : (k last : ℕ) (r : List ℕ) (cs : List Committer) → Bytes r → committers_in k last r ≡ Some cs → Listed k last r cs
 unfolding committers_in rising
 committers_back zero last [] cs b h = at_end zero last cs h
 committers_back zero last (x ∷ r) cs b h = absurd (none_some h)

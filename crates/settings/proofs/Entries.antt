@@ -1,8 +1,8 @@
 -- An entry, and one whose content is a number: read as it was written, and written as it was read. Assumes nothing.
+use Rattle.std.specs.Prelude.{Some}
 use mathlib.Core.Path.{◌≡◌, refl, sym, ap, ap₂, subst, ◌∙◌}
 use mathlib.Core.Bool.{Bool, true, false, ◌&&◌}
 use mathlib.Core.List.{List, [], ◌∷◌, ◌++◌, append_assoc}
-use mathlib.Core.Option.{some}
 use Prim.Native.Nat.{ℕ, suc, ◌+◌, ◌<◌, ◌^◌}
 use native.Mathlib.Omega.{arith}
 use lib.ListN.{length, length-append}
@@ -28,7 +28,7 @@ entry_bytes tag content h b = bytes_append (bytes_be 2 (suc (length content))) (
 
 -- the content of an entry that was written, and what stands behind it
 pub entry_in_lem : (tag : ℕ) (content rest : List ℕ) → length content < 65535
-    → entry_in tag (entry tag content ++ rest) ≡ some (record { front = content; behind = rest })
+    → entry_in tag (entry tag content ++ rest) ≡ Some (record { front = content; behind = rest })
 unfolding entry_in entry
 entry_in_lem tag content rest h =
     let n : ℕ = length (tag ∷ content) in
@@ -48,7 +48,7 @@ pub record Entered (tag : ℕ) (r : List ℕ) (e : Split) : Type 0 where
   pub rest : Bytes e.behind
 
 -- the tag and the content that are taken apart make the rest of the entry
-pub tagged_back : (tag : ℕ) (xs ys : List ℕ) (e : Split) → tagged tag xs ys ≡ some e → (tag ∷ e.front ≡ xs) × (e.behind ≡ ys)
+pub tagged_back : (tag : ℕ) (xs ys : List ℕ) (e : Split) → tagged tag xs ys ≡ Some e → (tag ∷ e.front ≡ xs) × (e.behind ≡ ys)
 tagged_back tag [] ys e h = absurd (none_some h)
 tagged_back tag (t ∷ xs) ys e h =
     let i = cond_some (eqb t tag) _ e h in
@@ -57,7 +57,7 @@ tagged_back tag (t ∷ xs) ys e h =
     (ap₂ (λ (n : ℕ) (s : Split). n ∷ s.front) p q, ap (λ (s : Split). s.behind) q)
 
 -- what is read is what the writer makes of the content
-pub entry_back : (tag : ℕ) (r : List ℕ) (e : Split) → Bytes r → entry_in tag r ≡ some e → Entered tag r e
+pub entry_back : (tag : ℕ) (r : List ℕ) (e : Split) → Bytes r → entry_in tag r ≡ Some e → Entered tag r e
 unfolding entry_in entry
 entry_back tag r e b h =
     some_then (split 2 r) _ e h λ size p h₁.
@@ -80,7 +80,7 @@ entry_back tag r e b h =
 module _ (tag w least most : ℕ) where
   -- a number that was written, and what stands behind it
   pub number_in_lem : (x : ℕ) (rest : List ℕ) → w < 65535 → x < 256 ^ w → within least most x ≡ true
-      → number_in tag w least most (entry tag (be w x) ++ rest) ≡ some (record { value = x; behind = rest })
+      → number_in tag w least most (entry tag (be w x) ++ rest) ≡ Some (record { value = x; behind = rest })
   unfolding number_in
   number_in_lem x rest short small bound =
       let e : val (be w x) ≡ x = val_be w x small in
@@ -95,12 +95,12 @@ module _ (tag w least most : ℕ) where
     pub rest : Bytes n.behind
 
   -- what is read is what the writer makes of the number
-  pub number_back : (r : List ℕ) (n : Number) → Bytes r → number_in tag w least most r ≡ some n → Numbered r n
+  pub number_back : (r : List ℕ) (n : Number) → Bytes r → number_in tag w least most r ≡ Some n → Numbered r n
   unfolding number_in
   number_back r n b h = some_then (entry_in tag r) _ n h λ e p q. go n e (entry_back tag r e b p) _ refl q
     where
       go : (n : Number) (e : Split) → Entered tag r e → (t : Bool)
-          → (eqb (length e.front) w && within least most (val e.front)) ≡ t → numbered t e ≡ some n → Numbered r n
+          → (eqb (length e.front) w && within least most (val e.front)) ≡ t → numbered t e ≡ Some n → Numbered r n
       go n e s false i q = absurd (none_some q)
       go n e s true i q =
           let u = both_true (eqb (length e.front) w) _ i in

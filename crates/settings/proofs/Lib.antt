@@ -1,4 +1,3 @@
-pub mod Versions
 pub mod Worked
 pub mod Splits
 pub mod Entries

@@ -1,8 +1,8 @@
 -- The whole record: read as it was written, written as it was read, how long it is, and where the committers stand. Assumes nothing.
+use Rattle.std.specs.Prelude.{Some, Ok}
 use mathlib.Core.Path.{◌≡◌, refl, sym, ap, ap₂, subst, ◌∙◌}
 use mathlib.Core.Bool.{Bool, true, false, ◌&&◌, ◌||◌, cond}
 use mathlib.Core.List.{List, [], ◌∷◌, ◌++◌, append_assoc, append-nil}
-use mathlib.Core.Option.{some}
 use Prim.Native.Nat.{ℕ, ◌+◌, ◌*◌, ◌-◌, ◌≤◌, ◌<◌, ◌^◌}
 use native.Mathlib.Omega.{arith}
 use lib.ListN.{length, get_or, length-append}
@@ -16,7 +16,6 @@ use Rattle.word.proofs.Cut.{cut_right}
 use Rattle.word.proofs.Tests.{both_true, true_both, every_at}
 use Rattle.model.specs.declared.Refusal.TheVariants.{MalformedRecord, UnknownVersion}
 use Rattle.model.specs.Basic.{every, collect}
-use Rattle.model.specs.Outcome.Outcome.{pass}
 use Rattle.model.proofs.Binds.{none_some, some_is, some_then, cond_some, pass_is, refuse_pass, or_refuse_inv}
 use Rattle.word.proofs.Fields.{at_seam}
 use Rattle.settings.specs.Format.{Committer, Settings, within, rising, in_bounds, is_version, has_site, entry, listed}
@@ -134,9 +133,9 @@ module _ (v : ℕ) (s : Settings) where
 -- ---- the site
 
 -- a site that was written is read
-site_in_lem : (t : Bool) (site : ℕ) → within 0 65535 site ≡ true → (t || eqb site 0) ≡ true → site_in t (site_entry t site) ≡ some site
+site_in_lem : (t : Bool) (site : ℕ) → within 0 65535 site ≡ true → (t || eqb site 0) ≡ true → site_in t (site_entry t site) ≡ Some site
 unfolding site_in site_entry
-site_in_lem false site h g = ap some (sym (eqb-true site 0 g))
+site_in_lem false site h g = ap Some (sym (eqb-true site 0 g))
 site_in_lem true site h g =
     ap (site_in true) (sym (append-nil (entry 4 (be 2 site))))
     ∙ rw (number_in_lem 4 2 0 65535 site [] (lit< tt) (fits 0 65535 site 65536 h (lit< tt)) h)
@@ -148,12 +147,12 @@ record Sited (t : Bool) (r : List ℕ) (x : ℕ) : Type 0 where
   said : (t || eqb x 0) ≡ true
 
 -- nothing stood behind the last entry
-ended_back : (r : List ℕ) (x y : ℕ) → ended r x ≡ some y → (r ≡ []) × (x ≡ y)
+ended_back : (r : List ℕ) (x y : ℕ) → ended r x ≡ Some y → (r ≡ []) × (x ≡ y)
 ended_back [] x y h = (refl, some_is h)
 ended_back (b ∷ r) x y h = absurd (none_some h)
 
 -- what is read is what the writer makes of the site
-site_back : (t : Bool) (r : List ℕ) (x : ℕ) → Bytes r → site_in t r ≡ some x → Sited t r x
+site_back : (t : Bool) (r : List ℕ) (x : ℕ) → Bytes r → site_in t r ≡ Some x → Sited t r x
 unfolding site_in site_entry
 site_back false r x b h =
     let e = ended_back r 0 x h in
@@ -171,7 +170,7 @@ site_back true r x b h =
 -- ---- the entries
 
 -- settings that were written are read
-entries_in_lem : (v : ℕ) (s : Settings) → Writable v s → entries_in v (entries v s) ≡ some s
+entries_in_lem : (v : ℕ) (s : Settings) → Writable v s → entries_in v (entries v s) ≡ Some s
 unfolding entries_in entries
 entries_in_lem v s w =
     let short : length (content s) < 65535 = omega (arith, committers_short v s w) in
@@ -189,7 +188,7 @@ record Entries (v : ℕ) (r : List ℕ) (s : Settings) : Type 0 where
   fine : Writable v s
 
 -- what is read is what the writer makes of the settings
-entries_back : (v : ℕ) (r : List ℕ) (s : Settings) → Bytes r → entries_in v r ≡ some s → Entries v r s
+entries_back : (v : ℕ) (r : List ℕ) (s : Settings) → Bytes r → entries_in v r ≡ Some s → Entries v r s
 unfolding entries_in entries
 entries_back v r s b h =
     some_then (number_in 1 1 0 2 r) _ s h λ log p₁ h₁.
@@ -218,7 +217,7 @@ abbrev rest : ℕ → Settings → List ℕ
 rest v s = be 2 (length (entries v s)) ++ entries v s
 
 -- behind the version, what was written is read
-settings_in_lem : (v : ℕ) (s : Settings) → Writable v s → settings_in v (rest v s) ≡ some s
+settings_in_lem : (v : ℕ) (s : Settings) → Writable v s → settings_in v (rest v s) ≡ Some s
 unfolding settings_in
 settings_in_lem v s w =
     let n : ℕ = length (entries v s) in
@@ -226,7 +225,7 @@ settings_in_lem v s w =
     rw (split_in 2 (be 2 n) (entries v s) (length_be 2 n), val_be 2 n small, eq-eqb n n refl) (entries_in_lem v s w)
 
 -- and what is read was written
-settings_back : (v : ℕ) (r : List ℕ) (s : Settings) → Bytes r → settings_in v r ≡ some s → (rest v s ≡ r) × Writable v s
+settings_back : (v : ℕ) (r : List ℕ) (s : Settings) → Bytes r → settings_in v r ≡ Some s → (rest v s ≡ r) × Writable v s
 unfolding settings_in
 settings_back v r s b h =
     some_then (split 2 r) _ s h λ size p q.
@@ -246,7 +245,7 @@ pub record Written (v : ℕ) (s : Settings) (r : List ℕ) : Type 0 where
   pub whole : form v s ≡ r
 
 -- what the writer gave was written so
-pub written : (v : ℕ) (s : Settings) (r : List ℕ) → write v s ≡ pass r → Written v s r
+pub written : (v : ℕ) (s : Settings) (r : List ℕ) → write v s ≡ Ok r → Written v s r
 unfolding write
 written v s r h =
     let i = passed (is_version v) _ UnknownVersion r h in
@@ -254,20 +253,20 @@ written v s r h =
     record { version = i.0; fine = writable_is v s j.0; whole = pass_is j.1 }
 
 -- what is written so the writer gives
-pub is_written : (v : ℕ) (s : Settings) (r : List ℕ) → Written v s r → write v s ≡ pass r
+pub is_written : (v : ℕ) (s : Settings) (r : List ℕ) → Written v s r → write v s ≡ Ok r
 unfolding write
-is_written v s r w = rw (w.version, is_writable v s w.fine) (ap pass w.whole)
+is_written v s r w = rw (w.version, is_writable v s w.fine) (ap Ok w.whole)
 
 -- what was written is read by a reader that knows the version
 pub read_form : (known v : ℕ) (s : Settings) → is_version known ≡ true → is_version v ≡ true → v ≤ known → Writable v s
-    → read known (form v s) ≡ pass s
+    → read known (form v s) ≡ Ok s
 unfolding read form
 read_form known v s h g k w =
     let b : Bytes (rest v s) = bytes_append (bytes_be 2 (length (entries v s))) (entries_bytes v s w) in
     rw (h, g, le-leb v known k, bytes_are b, settings_in_lem v s w)
 
 -- what was read was written, in the version that it has
-pub was_written : (known : ℕ) (r : List ℕ) (s : Settings) → read known r ≡ pass s → Written (get_or r 0 0) s r
+pub was_written : (known : ℕ) (r : List ℕ) (s : Settings) → read known r ≡ Ok s → Written (get_or r 0 0) s r
 unfolding read form
 was_written known [] s h = absurd (refuse_pass (passed (is_version known) _ UnknownVersion s h).1)
 was_written known (v ∷ r) s h =
@@ -295,7 +294,7 @@ onward v s = content s ++ site_entry (has_site v) s.site
 -- what a reader finds there: the length of the rest of the entry, which the record has, and the content
 abbrev pub Stands : List ℕ → List Committer → Type 0
 Stands r cs =
-    (1 ≤ val (cut 11 2 r)) × (13 + val (cut 11 2 r) ≤ length r) × (committers_in 16 0 (cut 14 (val (cut 11 2 r) - 1) r) ≡ some cs)
+    (1 ≤ val (cut 11 2 r)) × (13 + val (cut 11 2 r) ≤ length r) × (committers_in 16 0 (cut 14 (val (cut 11 2 r) - 1) r) ≡ Some cs)
 
 module _ (v : ℕ) (s : Settings) where
   -- the committers' entry begins at byte 11
@@ -351,7 +350,7 @@ module _ (v : ℕ) (s : Settings) where
       ∙ name_in_lem s.committers i (site_entry (has_site v) s.site) h
 
 -- the committers stand in every record that is read
-pub list_stands : (known : ℕ) (r : List ℕ) (s : Settings) → read known r ≡ pass s → Stands r s.committers
+pub list_stands : (known : ℕ) (r : List ℕ) (s : Settings) → read known r ≡ Ok s → Stands r s.committers
 list_stands known r s h =
     let w = was_written known r s h in
     subst (λ (l : List ℕ). Stands l s.committers) w.whole (form_stands (get_or r 0 0) s w.fine)

@@ -1,4 +1,5 @@
 -- The examples of docs/SETTINGS.md, by computing: what is written for them, and what each reader makes of that. Assumes nothing.
+use Rattle.std.specs.Prelude.{Ok, Err}
 use mathlib.Core.Path.{◌≡◌, refl}
 use mathlib.Core.List.{List, [], ◌∷◌, ◌++◌}
 use Prim.Native.Nat.{ℕ}
@@ -6,7 +7,6 @@ use lib.ListN.{take}
 use Rattle.word.specs.Be.{be, be_on, val, val_on}
 use Rattle.model.specs.declared.Refusal.TheVariants.{MalformedRecord, UnknownVersion}
 use Rattle.model.specs.Basic.{text}
-use Rattle.model.specs.Outcome.Outcome.{refuse, pass}
 use Rattle.settings.specs.Format.{Settings, write, read}
 use Rattle.settings.specs.Lent.{name_at}
 use Rattle.settings.specs.Format.{follows, rising, in_bounds, entry, listed, site_entry, entries, form, writable, split, entry_in}
@@ -41,36 +41,36 @@ old = front 1 35
 new : List ℕ
 new = front 2 40 ++ (0 ∷ 3 ∷ 4 ∷ 0 ∷ 7 ∷ [])
 
-written_old : write 1 (of_site 0) ≡ pass old
+written_old : write 1 (of_site 0) ≡ Ok old
 unfolding open_all of_site old front
 written_old = refl
 
-written_new : write 2 (of_site 7) ≡ pass new
+written_new : write 2 (of_site 7) ≡ Ok new
 unfolding open_all of_site new front
 written_new = refl
 
-read_old : read 1 old ≡ pass (of_site 0)
+read_old : read 1 old ≡ Ok (of_site 0)
 unfolding open_all of_site old front
 read_old = refl
 
-read_new : read 2 new ≡ pass (of_site 7)
+read_new : read 2 new ≡ Ok (of_site 7)
 unfolding open_all of_site new front
 read_new = refl
 
 -- an older reader refuses it by name; version 1 has no place for site 7; a byte is missing, or is too many
-refused_new : read 1 new ≡ refuse UnknownVersion
+refused_new : read 1 new ≡ Err UnknownVersion
 unfolding open_all new front
 refused_new = refl
 
-no_place : write 1 (of_site 7) ≡ refuse MalformedRecord
+no_place : write 1 (of_site 7) ≡ Err MalformedRecord
 unfolding open_all of_site
 no_place = refl
 
-cut_short : read 2 (take 42 new) ≡ refuse MalformedRecord
+cut_short : read 2 (take 42 new) ≡ Err MalformedRecord
 unfolding open_all new front
 cut_short = refl
 
-too_long : read 2 (old ++ (0 ∷ [])) ≡ refuse MalformedRecord
+too_long : read 2 (old ++ (0 ∷ [])) ≡ Err MalformedRecord
 unfolding open_all old front
 too_long = refl
 

@@ -1,14 +1,13 @@
 -- The settings record: what settings are, their bounds, what is written for them, and what is read of a record. Request 2026-01.
 -- docs/SETTINGS.md shows it byte by byte.
-use Rattle.std.specs.Prelude.{Bool, true, false, ◌&&◌, ◌||◌, cond, List, [], ◌∷◌, ◌++◌, ℕ, zero, suc, length, take, drop, eqb, ltb, leb}
-use Rattle.std.proofs.Math.Option.{Option, none, some}
+use Rattle.model.specs.declared.Refusal.{Refusal}
+use Rattle.std.specs.Prelude.{Bool, true, false, ◌&&◌, ◌||◌, cond, List, [], ◌∷◌, ◌++◌, ℕ, zero, suc, length, take, drop, eqb, ltb, leb, Option, Some, None, Result, Ok, Err}
 use Rattle.std.proofs.Math.Pow.{are_bytes}
 use Rattle.word.specs.Be.{val, be}
 use Rattle.model.specs.declared.Refusal.TheVariants.{MalformedRecord, UnknownVersion}
 use Rattle.model.specs.Basic.{every, collect}
 use Rattle.model.specs.EditList.{◌>>=◌}
-use Rattle.model.specs.Outcome.{Outcome, or_refuse}
-use Rattle.model.specs.Outcome.Outcome.{refuse, pass}
+use Rattle.model.specs.Outcome.{or_refuse}
 
 pub record Committer : Type 0 where
   pub number : ℕ
@@ -80,8 +79,8 @@ unfoldable pub writable : ℕ → Settings → Bool
 writable v s = in_bounds s && (has_site v || eqb s.site 0)
 
 -- 24 another version, then 23 out of bounds
-unfoldable pub write : ℕ → Settings → Outcome (List ℕ)
-write v s = cond (is_version v) (cond (writable v s) (pass (form v s)) (refuse MalformedRecord)) (refuse UnknownVersion)
+unfoldable pub write : ℕ → Settings → Result (List ℕ) Refusal
+write v s = cond (is_version v) (cond (writable v s) (Ok (form v s)) (Err MalformedRecord)) (Err UnknownVersion)
 
 -- ---- reading
 
@@ -91,12 +90,12 @@ pub record Split : Type 0 where
   pub behind : List ℕ
 
 unfoldable pub split : ℕ → List ℕ → Option Split
-split k r = cond (leb k (length r)) (some (record { front = take k r; behind = drop k r })) none
+split k r = cond (leb k (length r)) (Some (record { front = take k r; behind = drop k r })) None
 
 -- an entry with this tag: its content, and what stands behind it
 abbrev pub tagged : ℕ → List ℕ → List ℕ → Option Split
-tagged tag [] behind = none
-tagged tag (t ∷ content) behind = cond (eqb t tag) (some (record { front = content; behind = behind })) none
+tagged tag [] behind = None
+tagged tag (t ∷ content) behind = cond (eqb t tag) (Some (record { front = content; behind = behind })) None
 
 unfoldable pub entry_in : ℕ → List ℕ → Option Split
 entry_in tag r = do
@@ -110,8 +109,8 @@ pub record Number : Type 0 where
   pub behind : List ℕ
 
 abbrev pub numbered : Bool → Split → Option Number
-numbered false e = none
-numbered true e = some (record { value = val e.front; behind = e.behind })
+numbered false e = None
+numbered true e = Some (record { value = val e.front; behind = e.behind })
 
 unfoldable pub number_in : ℕ → ℕ → ℕ → ℕ → List ℕ → Option Number
 number_in tag w least most r = do
@@ -124,8 +123,8 @@ pub record Named : Type 0 where
   pub behind : List ℕ
 
 abbrev pub followed : Bool → Committer → List ℕ → Option Named
-followed false c behind = none
-followed true c behind = some (record { committer = c; behind = behind })
+followed false c behind = None
+followed true c behind = Some (record { committer = c; behind = behind })
 
 unfoldable pub committer_in : ℕ → List ℕ → Option Named
 committer_in last r = do
@@ -136,18 +135,18 @@ committer_in last r = do
 
 -- up to k of them, to the end of the content
 unfoldable pub committers_in : ℕ → ℕ → List ℕ → Option (List Committer)
-committers_in zero last [] = some []
-committers_in zero last (b ∷ r) = none
-committers_in (suc k) last [] = some []
+committers_in zero last [] = Some []
+committers_in zero last (b ∷ r) = None
+committers_in (suc k) last [] = Some []
 committers_in (suc k) last (b ∷ r) = do
   first ← committer_in last (b ∷ r)
   others ← committers_in k first.committer.number first.behind
-  some (first.committer ∷ others)
+  Some (first.committer ∷ others)
 
 -- the last entry: nothing stands behind it
 abbrev pub ended : List ℕ → ℕ → Option ℕ
-ended [] x = some x
-ended (b ∷ r) x = none
+ended [] x = Some x
+ended (b ∷ r) x = None
 
 unfoldable pub site_in : Bool → List ℕ → Option ℕ
 site_in false r = ended r 0
@@ -162,11 +161,11 @@ entries_in v r = do
   list ← entry_in 3 mode.behind
   committers ← committers_in 16 0 list.front
   site ← site_in (has_site v) list.behind
-  some (record { log = log.value; mode = mode.value; committers = committers; site = site })
+  Some (record { log = log.value; mode = mode.value; committers = committers; site = site })
 
 -- behind the version: the length of the rest, and the entries
 abbrev pub framed : ℕ → Split → Option Settings
-framed v size = cond (eqb (val size.front) (length size.behind)) (entries_in v size.behind) none
+framed v size = cond (eqb (val size.front) (length size.behind)) (entries_in v size.behind) None
 
 unfoldable pub settings_in : ℕ → List ℕ → Option Settings
 settings_in v r = do
@@ -174,11 +173,11 @@ settings_in v r = do
   framed v size
 
 -- 23 an empty record; 24 a version that the reader does not know; then 23. What a slice holds are bytes; on other numbers this is total too
-abbrev pub read_as : ℕ → List ℕ → Outcome Settings
-read_as known [] = refuse MalformedRecord
+abbrev pub read_as : ℕ → List ℕ → Result Settings Refusal
+read_as known [] = Err MalformedRecord
 read_as known (v ∷ r) =
-    cond (is_version v && leb v known) (or_refuse MalformedRecord (cond (are_bytes r) (settings_in v r) none)) (refuse UnknownVersion)
+    cond (is_version v && leb v known) (or_refuse MalformedRecord (cond (are_bytes r) (settings_in v r) None)) (Err UnknownVersion)
 
 -- a reader is told which version it knows: 1, or 2, which knows both; 24 another one
-unfoldable pub read : ℕ → List ℕ → Outcome Settings
-read known r = cond (is_version known) (read_as known r) (refuse UnknownVersion)
+unfoldable pub read : ℕ → List ℕ → Result Settings Refusal
+read known r = cond (is_version known) (read_as known r) (Err UnknownVersion)

@@ -1,11 +1,9 @@
 -- Settings as they are lent: where a committer's name stands in a record, settings as a foreign writer gives them, and a record that is
 -- put into a buffer.
-use Rattle.std.specs.Prelude.{cond, List, [], ◌∷◌, ◌++◌, ℕ, zero, suc, ◌+◌, length, drop, get_or, leb}
-use Rattle.std.proofs.Math.Option.{Option, none, some}
+use Rattle.model.specs.declared.Refusal.{Refusal}
+use Rattle.std.specs.Prelude.{cond, List, [], ◌∷◌, ◌++◌, ℕ, zero, suc, ◌+◌, length, drop, get_or, leb, Option, Some, None, Result, Ok, Err}
 use Rattle.model.specs.declared.Refusal.TheVariants.{MalformedRecord, UnknownVersion, ShortBuffer}
 use Rattle.model.specs.EditList.{◌>>=◌}
-use Rattle.model.specs.Outcome.{Outcome}
-use Rattle.model.specs.Outcome.Outcome.{refuse, pass}
 use Rattle.settings.specs.Format.{Committer, Settings, is_version, listed, write, split}
 
 -- ---- places
@@ -30,33 +28,33 @@ name_at i s = 14 + name_in i s.committers
 -- one after the other
 
 unfoldable pub committers_given : List ℕ → List ℕ → List ℕ → Option (List Committer)
-committers_given [] [] [] = some []
-committers_given [] [] (b ∷ names) = none
-committers_given [] (k ∷ lengths) names = none
-committers_given (n ∷ numbers) [] names = none
+committers_given [] [] [] = Some []
+committers_given [] [] (b ∷ names) = None
+committers_given [] (k ∷ lengths) names = None
+committers_given (n ∷ numbers) [] names = None
 committers_given (n ∷ numbers) (k ∷ lengths) names = do
   name ← split k names
   others ← committers_given numbers lengths name.behind
-  some (record { number = n; name = name.front } ∷ others)
+  Some (record { number = n; name = name.front } ∷ others)
 
 abbrev pub settings_given : ℕ → ℕ → ℕ → Option (List Committer) → Option Settings
-settings_given log mode site none = none
-settings_given log mode site (some committers) = some (record { log = log; mode = mode; committers = committers; site = site })
+settings_given log mode site None = None
+settings_given log mode site (Some committers) = Some (record { log = log; mode = mode; committers = committers; site = site })
 
 -- 24 before 23, here too
-abbrev pub write_some : ℕ → Option Settings → Outcome (List ℕ)
-write_some v none = refuse MalformedRecord
-write_some v (some s) = write v s
+abbrev pub write_some : ℕ → Option Settings → Result (List ℕ) Refusal
+write_some v None = Err MalformedRecord
+write_some v (Some s) = write v s
 
-unfoldable pub write_given : ℕ → Option Settings → Outcome (List ℕ)
-write_given v o = cond (is_version v) (write_some v o) (refuse UnknownVersion)
+unfoldable pub write_given : ℕ → Option Settings → Result (List ℕ) Refusal
+write_given v o = cond (is_version v) (write_some v o) (Err UnknownVersion)
 
 -- ---- into a buffer: 33 exactly when it is too short; bytes past the record stay, and on a refusal all do
 
-abbrev pub fitted : List ℕ → Outcome (List ℕ) → Outcome (List ℕ)
-fitted b (refuse x) = refuse x
-fitted b (pass r) = cond (leb (length r) (length b)) (pass r) (refuse ShortBuffer)
+abbrev pub fitted : List ℕ → Result (List ℕ) Refusal → Result (List ℕ) Refusal
+fitted b (Err x) = Err x
+fitted b (Ok r) = cond (leb (length r) (length b)) (Ok r) (Err ShortBuffer)
 
-abbrev pub afterwards : List ℕ → Outcome (List ℕ) → List ℕ
-afterwards b (refuse x) = b
-afterwards b (pass r) = r ++ drop (length r) b
+abbrev pub afterwards : List ℕ → Result (List ℕ) Refusal → List ℕ
+afterwards b (Err x) = b
+afterwards b (Ok r) = r ++ drop (length r) b

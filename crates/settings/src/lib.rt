@@ -88,8 +88,5 @@ impl Heading {
 pub fn is_version(v: u64) -> bool
     ensures { result ≡ is_version v }
 {
-    if v == Record::VERSION_1 {
-        return true;
-    }
-    v == Record::VERSION_2
+    v == Record::VERSION_1 || v == Record::VERSION_2
 }

@@ -1,95 +1,89 @@
 // Where regions come from: files that are named as arguments, or standard input.
+ghost use Rattle.std.specs.Prelude.{◌≤◌, length};
+
 use crate::judge;
-use std::env::FillError;
-use std::os::fd::AsRawFd;
-use std::rt::Env;
-use std::{fs, str};
+use region::Layout;
+use std::env::{Env, FillError};
+use std::io::{Read, Write};
+use std::rt::{Files, Runtime};
+use std::{fs, io, str};
 
-// Standard input.
-const STDIN_FILENO: i32 = 0;
+// The path of a file has fewer bytes.
+const PATH_LIMIT: usize = 4096;
 
-// What is left of the input is counted, and not kept. The number is 0 where nothing is left, or cannot be read.
-fn some_more(fd: i32) -> usize {
-    let mut rest = io::buffer();
-    io::read_full(fd, &mut rest)
-}
-
-fn one_more(fd: i32, size: u64) -> u64 {
-    std::num::wrapping_add_u64(size, some_more(fd) as u64)
-}
-
-// Nothing says that a file ends. So the loop counts its turns down, from a number that no run uses up.
-fn count_rest(fd: i32, size: u64) -> u64 {
-    let mut now = size;
-    let mut turns = u64::MAX;
-    while turns > 0 {
-        let more = one_more(fd, now);
-        if more == now {
-            return now;
+// Fills a buffer from the front: with how many bytes, up to where the input ends or cannot be read.
+fn fill(input: &mut impl Read, buffer: &mut [u8]) -> usize
+    ensures { result ≤ length buffer.new }
+{
+    let mut filled = 0;
+    for _ in 0..buffer.len() {
+        match input.read(&mut buffer[filled..]) {
+            Ok(0) | Err(_) => break,
+            Ok(n) => filled += n,
         }
-        now = more;
-        turns -= 1;
     }
-    now
+    filled
+}
+
+// What is left of the input is counted, and not kept.
+fn count_rest(input: &mut impl Read) -> u64 {
+    let mut rest = [0; 4096];
+    let mut count = 0u64;
+    for _ in 0..u64::MAX {
+        let more = fill(input, &mut rest);
+        if more == 0 {
+            break;
+        }
+        count = count.saturating_add(more as u64);
+    }
+    count
 }
 
 // There is room for a region and one byte more, which tells that an input is too long.
-fn read(fd: i32) {
-    let mut bytes = [0u8; 49550];
-    let got = io::read_full(fd, &mut bytes);
-    let size = count_rest(fd, got as u64);
-    judge::region(&bytes[..got], size);
+fn read(rt: &(impl Print + AllocGlobal), input: &mut impl Read) -> io::Result<()> {
+    let mut room = vec![in rt.alloc(); 0; Layout::SIZE + 1]?;
+    let buffer = &mut room[..];
+    let filled = fill(input, buffer);
+    let size = (filled as u64).saturating_add(count_rest(input));
+    judge::region(rt, &buffer[..filled], size)
 }
 
 // A path that is no text of UTF-8 opens nothing.
-fn open(rt: &HostRuntime, path: &[u8]) -> Option<fs::File> {
-    match str::from_utf8(path) {
-        Ok(text) => fs::open(rt, text).ok(),
-        Err(_) => None,
-    }
+fn open<R: Files>(rt: &R, path: &[u8]) -> Option<R::File> {
+    let path = str::from_utf8(path).ok()?;
+    fs::open(rt, path).ok()
 }
 
-fn file(rt: &HostRuntime, path: &[u8]) {
-    say::text(b"== ");
-    say::text(path);
-    say::end();
+fn file(rt: &(impl Runtime + AllocGlobal), path: &[u8]) -> io::Result<()> {
+    print!(rt; "== ")?;
+    io::writer(rt).write_all(path)?;
+    println!(rt)?;
     match open(rt, path) {
-        Some(opened) => read(opened.as_raw_fd()),
-        None => say::text(b"it cannot be opened\n"),
+        Some(mut opened) => read(rt, &mut opened),
+        None => println!(rt; "it cannot be opened"),
     }
 }
 
-// False where there is no such argument. One that is too long for a path is shown as an empty one.
-fn argument(rt: &HostRuntime, i: usize) -> bool {
-    let mut path = io::buffer();
-    match rt.arg(i, &mut path) {
-        Ok(length) => {
-            file(rt, &path[..length]);
-            true
-        }
-        Err(FillError::TooLong) => {
-            file(rt, b"");
-            true
-        }
-        Err(FillError::NotPresent) => false,
+// An argument, if there is one. One that is too long for a path is shown as an empty one.
+fn argument<'a>(rt: &impl Env, i: usize, path: &'a mut [u8]) -> Option<&'a [u8]> {
+    match rt.arg(i, path) {
+        Ok(length) => Some(&path[..length]),
+        Err(FillError::TooLong) => Some(&[]),
+        Err(FillError::NotPresent) => None,
     }
 }
 
-// The arguments behind the first.
-fn arguments(rt: &HostRuntime) {
-    let mut i: usize = 2;
-    while i < usize::MAX {
-        if !argument(rt, i) {
-            return;
+// The arguments behind the program's name.
+pub fn all(rt: &(impl Runtime + AllocGlobal)) -> io::Result<()> {
+    let mut buffer = [0; PATH_LIMIT];
+    if argument(rt, 1, &mut buffer).is_none() {
+        return read(rt, &mut rt.reader());
+    }
+    for i in 1..usize::MAX {
+        match argument(rt, i, &mut buffer) {
+            Some(path) => file(rt, path)?,
+            None => break,
         }
-        i += 1;
     }
-}
-
-pub fn all(rt: &HostRuntime) {
-    if argument(rt, 1) {
-        arguments(rt);
-    } else {
-        read(STDIN_FILENO);
-    }
+    Ok(())
 }

@@ -4,9 +4,10 @@
 
 mod input;
 mod judge;
-mod packed;
 mod store;
 
-fn main(rt: HostRuntime) {
-    input::all(&rt);
+use std::io;
+
+fn main(rt: HostRuntime) -> io::Result<()> {
+    input::all(&rt)
 }

@@ -1,82 +1,99 @@
 // One call each, on an answer record of its own, and the line that says what it answered.
 use answers::Answer;
 use region::Layout;
+use reply::Reply;
 use settings::Record;
+use std::fmt::Display;
+use std::io;
 
-fn place(answer: &[u8; 128], i: usize) -> u64 {
-    if i < Answer::PLACES {
-        return word::get_at(answer, i * Answer::WIDTH, Answer::WIDTH);
-    }
-    0
+// What a record is written from, beside log setting 1 and usual mode 2: a site, and its committers with their names one behind the other.
+#[derive(Clone, Copy, Debug)]
+pub struct Settings<'a> {
+    pub version: u64,
+    pub site: u64,
+    pub numbers: &'a [u64],
+    pub lengths: &'a [u64],
+    pub names: &'a [u8],
 }
 
-fn tell(what: &[u8], number: u32, answer: &[u8; 128]) {
-    say::text(what);
-    say::number(b": ", number as u64);
-    say::number(b", ", place(answer, 0));
-    say::number(b" ", place(answer, 1));
-    say::number(b" ", place(answer, 2));
-    say::number(b" ", place(answer, 3));
-    say::end();
+// The number, and the first four places.
+fn tell(rt: &impl Print, what: impl Display + Drop, reply: &Reply) -> io::Result<()> {
+    println!(rt;
+        "{what}: {}, {} {} {} {}",
+        reply.number,
+        reply.place(0),
+        reply.place(1),
+        reply.place(2),
+        reply.place(3)
+    )
 }
 
-pub fn read(what: &[u8], record: &[u8], known: u64) {
-    let mut answer = [0u8; 128];
-    let number = dehlbazin::dehlbazin_read_settings(record, known, &mut answer);
-    tell(what, number, &answer);
+pub fn read(
+    rt: &impl Print,
+    what: impl Display + Drop,
+    record: &[u8],
+    known: u64,
+) -> io::Result<()> {
+    let reply = Reply::of(|answer| dehlbazin::dehlbazin_read_settings(record, known, answer));
+    tell(rt, what, &reply)
 }
 
-pub fn committer(what: &[u8], record: &[u8], place: u64) {
-    let mut answer = [0u8; 128];
-    let number = dehlbazin::dehlbazin_read_committer(record, Record::VERSION_2, place, &mut answer);
-    tell(what, number, &answer);
+pub fn committer(
+    rt: &impl Print,
+    what: impl Display + Drop,
+    record: &[u8],
+    place: u64,
+) -> io::Result<()> {
+    let reply = Reply::of(|answer| {
+        dehlbazin::dehlbazin_read_committer(record, Record::VERSION_2, place, answer)
+    });
+    tell(rt, what, &reply)
 }
 
-// A record with log setting 1 and usual mode 2, for a site and its committers.
 pub fn write(
-    what: &[u8],
+    rt: &impl Print,
+    what: impl Display + Drop,
     buffer: &mut [u8],
-    version: u64,
-    site: u64,
-    numbers: &[u64],
-    lengths: &[u64],
-    names: &[u8],
-) {
-    let mut answer = [0u8; 128];
-    let number = dehlbazin::dehlbazin_write_settings(
-        buffer,
-        version,
-        1,
-        2,
-        site,
-        numbers,
-        lengths,
-        names,
-        &mut answer,
-    );
-    tell(what, number, &answer);
+    from: &Settings,
+) -> io::Result<()> {
+    let reply = Reply::of(|answer| {
+        dehlbazin::dehlbazin_write_settings(
+            buffer,
+            from.version,
+            1,
+            2,
+            from.site,
+            from.numbers,
+            from.lengths,
+            from.names,
+            answer,
+        )
+    });
+    tell(rt, what, &reply)
 }
 
 // A region is started with the record. Its log setting stands in byte 5.
-pub fn start(what: &[u8], record: &[u8]) {
-    let mut region = [0u8; 49549];
-    let mut answer = [0u8; 128];
-    let number = dehlbazin::dehlbazin_start_with_settings(&mut region, record, &mut answer);
-    tell(what, number, &answer);
-    say::number(
-        b"its log setting is ",
-        word::get_at(&region, Layout::SETTING_AT, 1),
-    );
-    say::end();
+pub fn start(
+    rt: &(impl Print + AllocGlobal),
+    what: impl Display + Drop,
+    record: &[u8],
+) -> io::Result<()> {
+    let mut store = vec![in rt.alloc(); 0; Layout::SIZE]?;
+    let region = &mut store[..];
+    let reply = Reply::of(|answer| {
+        dehlbazin::dehlbazin_start_with_settings(region, record, answer)
+    });
+    tell(rt, what, &reply)?;
+    println!(rt; "its log setting is {}", region[Layout::SETTING_AT])
 }
 
 // A damaged record that is still read, with the place that was changed, and by how much.
-pub fn still(i: u64, by: u8, record: &[u8]) {
-    let mut answer = [0u8; 128];
-    let number = dehlbazin::dehlbazin_read_settings(record, Record::VERSION_2, &mut answer);
-    if number == Answer::DONE {
-        say::number(b"byte ", i);
-        say::number(b" and ", by as u64);
-        tell(b"", number, &answer);
+pub fn still(rt: &impl Print, i: usize, by: u8, record: &[u8]) -> io::Result<()> {
+    let reply = Reply::of(|answer| {
+        dehlbazin::dehlbazin_read_settings(record, Record::VERSION_2, answer)
+    });
+    if reply.number == Answer::DONE {
+        tell(rt, format_args!("byte {i} and {by}"), &reply)?;
     }
+    Ok(())
 }

@@ -1,122 +1,109 @@
 // What a record can hold, at each edge and past it.
-use crate::asks::write;
+use crate::asks::{Settings, write};
 use settings::Record;
+use std::io;
 
-// A site with one committer, whose name has as many bytes as are said; with two of one byte each.
-fn one(what: &[u8], number: u64, length: u64, name: &[u8]) {
-    let mut buffer = [0u8; 579];
-    let numbers = [number];
-    let lengths = [length];
-    write(
-        what,
-        &mut buffer,
-        Record::VERSION_2,
-        65535,
-        &numbers,
-        &lengths,
-        name,
-    );
-}
-
-fn two(what: &[u8], first: u64, second: u64) {
-    let mut buffer = [0u8; 579];
-    let numbers = [first, second];
-    let lengths = [1u64, 1u64];
-    write(
-        what,
-        &mut buffer,
-        Record::VERSION_1,
-        0,
-        &numbers,
-        &lengths,
-        b"ab",
-    );
+// A record is written where the longest has room.
+fn written(rt: &impl Print, what: &str, from: &Settings) -> io::Result<()> {
+    write(rt, what, &mut [0u8; 579], from)
 }
 
 // Names of 1, 32 and 33 bytes, and of none.
-fn names() {
-    let bytes = [97u8; 33];
-    one(b"a name of 1", 65535, 1, &bytes[0..1]);
-    one(b"of 32", 65535, 32, &bytes[0..32]);
-    one(b"of 33", 65535, 33, &bytes);
-    one(b"of 0", 65535, 0, &bytes[0..0]);
+fn names(rt: &impl Print) -> io::Result<()> {
+    let one = |what, names: &[u8]| {
+        let from = Settings {
+            version: Record::VERSION_2,
+            site: 65535,
+            numbers: &[65535],
+            lengths: &[names.len() as u64],
+            names,
+        };
+        written(rt, what, &from)
+    };
+    let bytes = [b'a'; 33];
+    one("a name of 1", &bytes[..1])?;
+    one("of 32", &bytes[..32])?;
+    one("of 33", &bytes)?;
+    one("of 0", &[])
 }
 
-// Numbers that do not rise, or do not fit.
-fn numbers() {
-    two(b"rising", 1, 2);
-    two(b"equal", 2, 2);
-    two(b"from 0", 0, 2);
-    two(b"to 65536", 1, 65536);
+// Numbers that do not rise, or do not fit, of two committers with names of one byte.
+fn numbers(rt: &impl Print) -> io::Result<()> {
+    let pairs = [
+        ("rising", [1, 2]),
+        ("equal", [2, 2]),
+        ("from 0", [0, 2]),
+        ("to 65536", [1, 65536]),
+    ];
+    for (what, numbers) in pairs {
+        let from = Settings {
+            version: Record::VERSION_1,
+            site: 0,
+            numbers: &numbers,
+            lengths: &[1, 1],
+            names: b"ab",
+        };
+        written(rt, what, &from)?;
+    }
+    Ok(())
 }
 
-// Settings with no committers.
-fn without(what: &[u8], buffer: &mut [u8], version: u64, site: u64) {
-    let numbers = [0u64; 1];
-    let lengths = [0u64; 1];
-    let names = [0u8; 1];
-    write(
-        what,
-        buffer,
+// A site with no committers.
+fn without(version: u64, site: u64) -> Settings<'static> {
+    Settings {
         version,
         site,
-        &numbers[0..0],
-        &lengths[0..0],
-        &names[0..0],
-    );
+        numbers: &[],
+        lengths: &[],
+        names: b"",
+    }
 }
 
 // Sites and versions.
-fn sites() {
-    let mut buffer = [0u8; 579];
-    without(b"version 1, site 0", &mut buffer, Record::VERSION_1, 0);
-    without(b"version 1, site 1", &mut buffer, Record::VERSION_1, 1);
-    without(
-        b"version 2, site 65536",
-        &mut buffer,
-        Record::VERSION_2,
-        65536,
-    );
-    without(b"version 3", &mut buffer, 3, 0);
+fn sites(rt: &impl Print) -> io::Result<()> {
+    written(rt, "version 1, site 0", &without(Record::VERSION_1, 0))?;
+    written(rt, "version 1, site 1", &without(Record::VERSION_1, 1))?;
+    written(
+        rt,
+        "version 2, site 65536",
+        &without(Record::VERSION_2, 65536),
+    )?;
+    written(rt, "version 3", &without(3, 0))
 }
 
 // A buffer that is just long enough, and one that is a byte shorter.
-fn buffers() {
-    let mut buffer = [0u8; 19];
-    without(b"19 bytes", &mut buffer, Record::VERSION_2, 7);
-    without(b"18 bytes", &mut buffer[0..18], Record::VERSION_2, 7);
+fn buffers(rt: &impl Print) -> io::Result<()> {
+    let from = without(Record::VERSION_2, 7);
+    write(rt, "19 bytes", &mut [0u8; 19], &from)?;
+    write(rt, "18 bytes", &mut [0u8; 18], &from)
 }
 
 // 16 committers, and 17.
-fn many() {
-    let mut buffer = [0u8; 579];
-    let numbers = [1u64, 2, 3, 4, 5, 6, 7, 8, 9, 10, 11, 12, 13, 14, 15, 16, 17];
-    let lengths = [32u64; 17];
-    let names = [98u8; 544];
-    write(
-        b"16 committers",
-        &mut buffer,
-        Record::VERSION_2,
-        7,
-        &numbers[0..16],
-        &lengths[0..16],
-        &names[0..512],
-    );
-    write(
-        b"17 committers",
-        &mut buffer,
-        Record::VERSION_2,
-        7,
-        &numbers,
-        &lengths,
-        &names,
-    );
+fn many(rt: &impl Print) -> io::Result<()> {
+    let numbers = [1, 2, 3, 4, 5, 6, 7, 8, 9, 10, 11, 12, 13, 14, 15, 16, 17];
+    let lengths = [32; 17];
+    let names = [b'b'; 544];
+    let most = Settings {
+        version: Record::VERSION_2,
+        site: 7,
+        numbers: &numbers[..16],
+        lengths: &lengths[..16],
+        names: &names[..512],
+    };
+    let too_many = Settings {
+        numbers: &numbers,
+        lengths: &lengths,
+        names: &names,
+        ..most
+    };
+    written(rt, "16 committers", &most)?;
+    written(rt, "17 committers", &too_many)
 }
 
-pub fn all() {
-    names();
-    numbers();
-    sites();
-    buffers();
-    many();
+pub fn all(rt: &impl Print) -> io::Result<()> {
+    names(rt)?;
+    numbers(rt)?;
+    sites(rt)?;
+    buffers(rt)?;
+    many(rt)
 }

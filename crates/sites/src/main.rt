@@ -2,134 +2,133 @@
 // answer is one line: what was asked, the number, and the first four places. The file stdout has what docs/SETTINGS.md says of each.
 #![tactic(auto)]
 
+ghost use Rattle.std.specs.Prelude.{◌<◌, ◌≤◌, length};
+
 mod asks;
 mod bounds;
 
+use asks::Settings;
 use settings::{Heading, Record};
+use std::io;
 
-// A record of 43 bytes, which most stages look at.
-fn sample(record: &mut [u8]) {
-    let numbers = [12u64, 40u64];
-    let lengths = [7u64, 11u64];
-    asks::write(
-        b"example",
-        record,
-        Record::VERSION_2,
-        7,
-        &numbers,
-        &lengths,
-        b"plannernight shift",
-    );
+// An older reader refuses it, and a newer one reads it.
+fn readers(rt: &impl Print, record: &[u8]) -> io::Result<()> {
+    for known in 0..4 {
+        asks::read(rt, format_args!("known {known}"), record, known)?;
+    }
+    Ok(())
 }
 
-// An older reader refuses it, a newer one reads it, and places count from 0.
-fn readers(record: &[u8]) {
-    asks::read(b"known 0", record, 0);
-    asks::read(b"known 1", record, Record::VERSION_1);
-    asks::read(b"known 2", record, Record::VERSION_2);
-    asks::read(b"known 3", record, 3);
-}
-
-fn places(record: &[u8]) {
-    asks::committer(b"place 0", record, 0);
-    asks::committer(b"place 1", record, 1);
-    asks::committer(b"place 2", record, 2);
-    asks::committer(b"place 2^32", record, 4294967296);
+// Places count from 0.
+fn places(rt: &impl Print, record: &[u8]) -> io::Result<()> {
+    for place in 0..3 {
+        asks::committer(rt, format_args!("place {place}"), record, place)?;
+    }
+    asks::committer(rt, "place 2^32", record, 1 << 32)
 }
 
 // One byte of a record is another. The line says which, and only where the record is still read.
-fn damage(record: &mut [u8], i: usize, by: u8) {
-    if i < record.len() {
-        let kept = record[i];
-        record[i] = std::num::wrapping_add_u8(kept, by);
-        asks::still(i as u64, by, record);
-        record[i] = kept;
-    }
+fn damage(rt: &impl Print, record: &mut [u8], i: usize, by: u8) -> io::Result<()>
+    requires { i < length record.old }
+{
+    let kept = record[i];
+    record[i] = kept.wrapping_add(by);
+    asks::still(rt, i, by, record)?;
+    record[i] = kept;
+    Ok(())
 }
 
 // Each byte in its turn is one greater, and one less.
-fn damages(record: &mut [u8]) {
-    let mut i: usize = 0;
-    while i < 43 {
-        damage(record, i, 1);
-        damage(record, i, 255);
-        i += 1;
+fn damages(rt: &impl Print, record: &mut [u8]) -> io::Result<()> {
+    for i in 0..record.len() {
+        damage(rt, record, i, 1)?;
+        damage(rt, record, i, 255)?;
     }
+    Ok(())
 }
 
 // The first bytes of a buffer.
-fn front(what: &[u8], buffer: &[u8], n: usize) {
-    if n <= buffer.len() {
-        asks::read(what, &buffer[0..n], Record::VERSION_2);
-    }
+fn front(rt: &impl Print, what: &str, buffer: &[u8], n: usize) -> io::Result<()>
+    requires { n ≤ length buffer.now }
+{
+    asks::read(rt, what, &buffer[..n], Record::VERSION_2)
 }
 
 // What is cut off, and what is too much.
-fn lengths(buffer: &[u8]) {
-    front(b"empty", buffer, 0);
-    front(b"version alone", buffer, 1);
-    front(b"one byte short", buffer, 42);
-    front(b"one byte more", buffer, 44);
+fn lengths(rt: &impl Print, buffer: &[u8]) -> io::Result<()>
+    requires { 44 ≤ length buffer.now }
+{
+    front(rt, "empty", buffer, 0)?;
+    front(rt, "version alone", buffer, 1)?;
+    front(rt, "one byte short", buffer, 42)?;
+    front(rt, "one byte more", buffer, 44)
+}
+
+// A record of 43 bytes, in front of a longer buffer.
+fn sample(rt: &impl Print, buffer: &mut [u8]) -> io::Result<()> {
+    let from = Settings {
+        version: Record::VERSION_2,
+        site: 7,
+        numbers: &[12, 40],
+        lengths: &[7, 11],
+        names: b"plannernight shift",
+    };
+    asks::write(rt, "example", buffer, &from)
+}
+
+// What is asked of that record as it stands, and when it is damaged.
+fn whole(rt: &(impl Print + AllocGlobal), buffer: &mut [u8]) -> io::Result<()>
+    requires { 43 ≤ length buffer.old }
+{
+    let record = &mut buffer[..43];
+    readers(rt, record)?;
+    places(rt, record)?;
+    asks::start(rt, "start", record)?;
+    damages(rt, record)
+}
+
+fn example(rt: &(impl Print + AllocGlobal)) -> io::Result<()> {
+    let mut buffer = [0u8; 579];
+    sample(rt, &mut buffer)?;
+    lengths(rt, &buffer)?;
+    whole(rt, &mut buffer)
 }
 
 // Two committers with numbers that follow each other, in version 1.
-fn neighbours() {
+fn neighbours(rt: &impl Print) -> io::Result<()> {
     let mut record = [0u8; 22];
-    asks::write(
-        b"neighbours",
-        &mut record,
-        Record::VERSION_1,
-        0,
-        &[1u64, 2u64],
-        &[1u64, 1u64],
-        b"ab",
-    );
-    damages(&mut record);
-}
-
-fn set(record: &mut [u8], i: usize, value: u8) {
-    if i < record.len() {
-        record[i] = value;
-    }
+    let from = Settings {
+        version: Record::VERSION_1,
+        site: 0,
+        numbers: &[1, 2],
+        lengths: &[1, 1],
+        names: b"ab",
+    };
+    asks::write(rt, "neighbours", &mut record, &from)?;
+    damages(rt, &mut record)
 }
 
 // The longest name; and one that is a byte longer, in a record that is otherwise right, since its three lengths say so too.
-fn longest_name(record: &mut [u8]) {
-    asks::write(
-        b"longest name",
-        record,
-        Record::VERSION_1,
-        0,
-        &[1u64],
-        &[32u64],
-        b"aaaaaaaaaaaaaaaaaaaaaaaaaaaaaaaa",
-    );
-    front(b"it is read", record, 49);
-    set(record, Record::LENGTH_AT + 1, 47);
-    set(record, Record::COMMITTERS + 1, 37);
-    set(record, Record::LIST + Heading::LENGTH_AT, 33);
-    front(b"33 bytes are not", record, 50);
+fn longest_name(rt: &impl Print) -> io::Result<()> {
+    let mut record = [b'a'; 50];
+    let from = Settings {
+        version: Record::VERSION_1,
+        site: 0,
+        numbers: &[1],
+        lengths: &[32],
+        names: &[b'a'; 32],
+    };
+    asks::write(rt, "longest name", &mut record, &from)?;
+    front(rt, "it is read", &record, 49)?;
+    record[Record::LENGTH_AT + 1] = 47;
+    record[Record::COMMITTERS + 1] = 37;
+    record[Record::LIST + Heading::LENGTH_AT] = 33;
+    front(rt, "33 bytes are not", &record, 50)
 }
 
-// What is asked of the first record, as it stands.
-fn whole(record: &[u8]) {
-    readers(record);
-    places(record);
-    asks::start(b"start", record);
-}
-
-// Other records.
-fn others() {
-    neighbours();
-    longest_name(&mut [97u8; 50]);
-    bounds::all();
-}
-
-fn main() {
-    let mut buffer = [0u8; 579];
-    sample(&mut buffer);
-    lengths(&buffer);
-    whole(&buffer[0..43]);
-    damages(&mut buffer[0..43]);
-    others();
+fn main(rt: HostRuntime) -> io::Result<()> {
+    example(&rt)?;
+    neighbours(&rt)?;
+    longest_name(&rt)?;
+    bounds::all(&rt)
 }

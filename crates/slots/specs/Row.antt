@@ -1,28 +1,14 @@
 -- The form of a row in a slot of 36 bytes: its own list of numbers, each at its place.
-use Rattle.std.specs.Prelude.{◌≡◌, false, cond, List, [], ◌∷◌, ℕ, zero, suc, ◌+◌, ◌^◌, ◌<◌, get_or, eqb}
-use Rattle.std.proofs.Math.Option.{Option, none, some}
+use Rattle.target.specs.declared.Target.{Target}
+use Rattle.std.specs.Prelude.{◌≡◌, false, cond, List, [], ◌∷◌, ℕ, zero, suc, ◌+◌, ◌^◌, ◌<◌, get_or, eqb, Option, Some, None}
 use Rattle.word.specs.Be.{cut, val}
 use Rattle.word.specs.Fields.{fields, unfields}
 use Rattle.target.specs.Fields.{target_byte, target_number}
-use Rattle.target.specs.declared.OptionTarget.{OptionTarget}
-use Rattle.target.specs.declared.OptionTarget.TheVariants.{Absent, Present}
-use Rattle.transaction.specs.declared.ParentIndex.{ParentIndex}
-use Rattle.transaction.specs.declared.ParentIndex.TheVariants.{NoParent, Parent}
 use Rattle.transaction.specs.declared.Edit.{Edit}
 use Rattle.transaction.specs.Change.{new_value, previous_value, expected_of, log_of, force_of, message_of}
-use Rattle.transaction.specs.Fields.{change_byte, ref_log_byte, previous_byte, ref_log_of, ref_log_option, previous_of, previous_option}
+use Rattle.transaction.specs.Fields.{change_byte, ref_log_byte, previous_byte, ref_log_of, previous_of}
 use Rattle.transaction.specs.declared.PreviousValue.{PreviousValue}
 use Rattle.transaction.specs.declared.Change.{Change}
-use Rattle.slots.specs.declared.OptionOptionTarget.{OptionOptionTarget}
-use Rattle.slots.specs.declared.OptionOptionTarget.TheVariants.{NoTarget}
-use Rattle.slots.specs.declared.OptionOptionTarget.TheVariants as option_target
-use Rattle.slots.specs.declared.OptionParent.{OptionParent}
-use Rattle.slots.specs.declared.OptionParent.TheVariants.{NoPlace, Place}
-use Rattle.slots.specs.declared.OptionChange.{OptionChange}
-use Rattle.slots.specs.declared.OptionChange.TheVariants.{NoChange}
-use Rattle.slots.specs.declared.OptionChange.TheVariants as option_change
-use Rattle.slots.specs.declared.OptionRow.{OptionRow}
-use Rattle.slots.specs.declared.OptionRow.TheVariants.{NoRow, Row}
 use Rattle.model.specs.EditList.{◌>>=◌, flag_of, change_of}
 use Rattle.model.specs.Numbers.{flag}
 use Rattle.slots.specs.Values.{target_from, FitsTarget}
@@ -32,13 +18,13 @@ abbrev pub row_widths : List ℕ
 row_widths = 2 ∷ 1 ∷ 1 ∷ 1 ∷ 2 ∷ 1 ∷ 1 ∷ 8 ∷ 1 ∷ 8 ∷ 1 ∷ 1 ∷ 8 ∷ []
 
 -- whether there is a parent, and its place
-abbrev pub parent_flag : ParentIndex → ℕ
-parent_flag NoParent = 0
-parent_flag (Parent j) = 1
+abbrev pub parent_flag : Option ℕ → ℕ
+parent_flag None = 0
+parent_flag (Some j) = 1
 
-abbrev pub parent_place : ParentIndex → ℕ
-parent_place NoParent = 0
-parent_place (Parent j) = j
+abbrev pub parent_place : Option ℕ → ℕ
+parent_place None = 0
+parent_place (Some j) = j
 
 abbrev pub row_numbers : Edit → List ℕ
 row_numbers r =
@@ -61,22 +47,22 @@ unfoldable pub row_form : Edit → List ℕ
 row_form r = fields row_widths (row_numbers r)
 
 -- no parent has place 0 beside it
-abbrev pub parent_from : ℕ → ℕ → Option ParentIndex
-parent_from zero j = cond (eqb j 0) (some NoParent) none
-parent_from (suc zero) j = some (Parent j)
-parent_from (suc (suc k)) j = none
+abbrev pub parent_from : ℕ → ℕ → Option (Option ℕ)
+parent_from zero j = cond (eqb j 0) (Some None) None
+parent_from (suc zero) j = Some (Some j)
+parent_from (suc (suc k)) j = None
 
 -- the row of thirteen numbers, read as a record of the edit list is; it is not dereferenced
 unfoldable pub row_from : List ℕ → Option Edit
 row_from xs = do
-  log ← ref_log_option (ref_log_of (get_or xs 2 0))
+  log ← (ref_log_of (get_or xs 2 0))
   force ← flag_of (get_or xs 3 0)
   was ← target_from (get_or xs 6 0) (get_or xs 7 0)
-  expected ← previous_option (previous_of (get_or xs 5 0) was)
+  expected ← (previous_of (get_or xs 5 0) was)
   new ← target_from (get_or xs 8 0) (get_or xs 9 0)
   change ← change_of (get_or xs 1 0) log force expected new (get_or xs 4 0)
   parent ← parent_from (get_or xs 10 0) (get_or xs 11 0)
-  some
+  Some
       (record {
         update = record { change = change; name = record { 0 = get_or xs 0 0 }; deref = false };
         parent_index = parent;
@@ -89,52 +75,36 @@ row_in r = row_from (unfields 0 row_widths r)
 -- ---- the parts of a row in its slot
 
 -- the target of the nine bytes from the a-th on
-unfoldable pub slot_target : ℕ → List ℕ → Option OptionTarget
+unfoldable pub slot_target : ℕ → List ℕ → Option (Option Target)
 slot_target a r = target_from (val (cut a 1 r)) (val (cut (a + 1) 8 r))
 
 unfoldable pub slot_expected : List ℕ → Option PreviousValue
 slot_expected r = do
   was ← slot_target 8 r
-  previous_option (previous_of (val (cut 7 1 r)) was)
+  (previous_of (val (cut 7 1 r)) was)
 
 unfoldable pub slot_change : List ℕ → Option Change
 slot_change r = do
-  log ← ref_log_option (ref_log_of (val (cut 3 1 r)))
+  log ← (ref_log_of (val (cut 3 1 r)))
   force ← flag_of (val (cut 4 1 r))
   expected ← slot_expected r
   new ← slot_target 17 r
   change_of (val (cut 2 1 r)) log force expected new (val (cut 5 2 r))
 
-unfoldable pub slot_parent : List ℕ → Option ParentIndex
+unfoldable pub slot_parent : List ℕ → Option (Option ℕ)
 slot_parent r = parent_from (val (cut 26 1 r)) (val (cut 27 1 r))
 
 -- ---- the code's own forms of what may be missing
 
-abbrev pub target_option : OptionOptionTarget → Option OptionTarget
-target_option NoTarget = none
-target_option (option_target.Target t) = some t
-
-abbrev pub parent_option : OptionParent → Option ParentIndex
-parent_option NoPlace = none
-parent_option (Place p) = some p
-
-abbrev pub change_option : OptionChange → Option Change
-change_option NoChange = none
-change_option (option_change.Change c) = some c
-
-abbrev pub row_option : OptionRow → Option Edit
-row_option NoRow = none
-row_option (Row r) = some r
-
 -- ---- a row that its bytes can hold
 
-abbrev pub FitsOption : OptionTarget → Type 0
-FitsOption Absent = Unit {0}
-FitsOption (Present t) = FitsTarget t
+abbrev pub FitsOption : Option Target → Type 0
+FitsOption None = Unit {0}
+FitsOption (Some t) = FitsTarget t
 
-abbrev pub FitsParent : ParentIndex → Type 0
-FitsParent NoParent = Unit {0}
-FitsParent (Parent j) = j < 2 ^ 8
+abbrev pub FitsParent : Option ℕ → Type 0
+FitsParent None = Unit {0}
+FitsParent (Some j) = j < 2 ^ 8
 
 pub record FitsRow (r : Edit) : Type 0 where
   pub name : r.update.name.0 < 2 ^ 16

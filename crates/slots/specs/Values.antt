@@ -1,27 +1,17 @@
 -- The forms of a loose value, a packed value, a lock and a log line in a slot of bytes. Each has a form for every value and a
 -- reading of every slot, which finds a value or none.
-use Rattle.std.specs.Prelude.{◌&&◌, cond, List, [], ◌∷◌, ℕ, zero, suc, ◌^◌, ◌<◌, get_or, eqb, leb}
-use Rattle.std.proofs.Math.Option.{Option, none, some}
+use Rattle.target.specs.declared.ObjectNumber.{ObjectNumber}
+use Rattle.std.specs.Prelude.{◌&&◌, cond, List, [], ◌∷◌, ℕ, zero, suc, ◌^◌, ◌<◌, get_or, eqb, leb, Option, Some, None}
 use Rattle.word.specs.Be.{cut, val}
 use Rattle.word.specs.Fields.{fields, unfields}
 use Rattle.target.specs.declared.Target.{Target}
 use Rattle.target.specs.declared.Target.TheVariants.{Object, Symbolic}
-use Rattle.target.specs.declared.OptionTarget.{OptionTarget}
-use Rattle.target.specs.declared.OptionTarget.TheVariants.{Absent, Present}
 use Rattle.model.specs.declared.Loose.{Loose}
 use Rattle.model.specs.declared.Loose.TheVariants as loose
-use Rattle.model.specs.declared.Packed.{Packed}
-use Rattle.model.specs.declared.Packed.TheVariants as packed
 use Rattle.model.specs.declared.Lock.{Lock}
 use Rattle.model.specs.declared.Lock.TheVariants.{Free, Foreign, Ours}
 use Rattle.model.specs.declared.Line.{Line}
-use Rattle.slots.specs.declared.OptionLoose.{OptionLoose}
-use Rattle.slots.specs.declared.OptionLoose.TheVariants.{NoLoose}
-use Rattle.slots.specs.declared.OptionLoose.TheVariants as option
-use Rattle.slots.specs.declared.OptionLock.{OptionLock}
-use Rattle.slots.specs.declared.OptionLock.TheVariants.{NoLock}
-use Rattle.slots.specs.declared.OptionLock.TheVariants as option_lock
-use Rattle.model.specs.Store.{lock_byte}
+use Rattle.model.specs.Store.{lock_byte, lock_from}
 use Rattle.model.specs.EditList.{◌>>=◌, target_of}
 
 -- ---- a loose value: kind (0 none, 1 object, 2 link, 3 broken) and number, 1 + 8 bytes
@@ -45,23 +35,19 @@ unfoldable pub loose_form : Loose → List ℕ
 loose_form v = fields loose_widths (loose_kind v ∷ loose_number v ∷ [])
 
 -- a target is read as one of the edit list is, but that a link's number has 16 bits
-abbrev pub target_from : ℕ → ℕ → Option OptionTarget
-target_from kind x = cond (eqb kind 2 && leb (2 ^ 16) x) none (target_of kind x)
+abbrev pub target_from : ℕ → ℕ → Option (Option Target)
+target_from kind x = cond (eqb kind 2 && leb (2 ^ 16) x) None (target_of kind x)
 
-abbrev pub unbroken : OptionTarget → Loose
-unbroken Absent = loose.None
-unbroken (Present t) = loose.Target t
+abbrev pub unbroken : Option Target → Loose
+unbroken None = loose.None
+unbroken (Some t) = loose.Target t
 
 -- 3 is broken, with number 0 beside it; else none or a target
 abbrev pub loose_from : ℕ → ℕ → Option Loose
-loose_from kind x = cond (eqb kind 3) (cond (eqb x 0) (some loose.Broken) none) (target_from kind x >>= λ t. some (unbroken t))
+loose_from kind x = cond (eqb kind 3) (cond (eqb x 0) (Some loose.Broken) None) (target_from kind x >>= λ t. Some (unbroken t))
 
 unfoldable pub loose_in : List ℕ → Option Loose
 loose_in r = loose_from (val (cut 0 1 r)) (val (cut 1 8 r))
-
-abbrev pub loose_option : OptionLoose → Option Loose
-loose_option NoLoose = none
-loose_option (option.Loose v) = some v
 
 -- a target that its bytes can hold
 abbrev pub FitsTarget : Target → Type 0
@@ -75,37 +61,27 @@ FitsLoose loose.Broken = Unit {0}
 
 -- ---- a packed value: its object's number, 0 for none, 8 bytes
 
-abbrev pub packed_number : Packed → ℕ
-packed_number packed.None = 0
-packed_number (packed.Object o) = o.0
+abbrev pub packed_number : Option ObjectNumber → ℕ
+packed_number None = 0
+packed_number (Some o) = o.0
 
-unfoldable pub packed_form : Packed → List ℕ
+unfoldable pub packed_form : Option ObjectNumber → List ℕ
 packed_form v = fields (8 ∷ []) (packed_number v ∷ [])
 
-abbrev pub packed_from : ℕ → Packed
-packed_from x = cond (eqb x 0) packed.None (packed.Object (record { 0 = x }))
+abbrev pub packed_from : ℕ → Option ObjectNumber
+packed_from x = cond (eqb x 0) None (Some (record { 0 = x }))
 
-unfoldable pub packed_in : List ℕ → Option Packed
-packed_in r = some (packed_from (val (cut 0 8 r)))
+unfoldable pub packed_in : List ℕ → Option (Option ObjectNumber)
+packed_in r = Some (packed_from (val (cut 0 8 r)))
 
-abbrev pub FitsPacked : Packed → Type 0
-FitsPacked packed.None = Unit {0}
-FitsPacked (packed.Object o) = (0 < o.0) × (o.0 < 2 ^ 64)
+abbrev pub FitsPacked : Option ObjectNumber → Type 0
+FitsPacked None = Unit {0}
+FitsPacked (Some o) = (0 < o.0) × (o.0 < 2 ^ 64)
 
 -- ---- a lock: 0 free, 1 foreign, 2 ours, 1 byte
 
 unfoldable pub lock_form : Lock → List ℕ
 lock_form v = fields (1 ∷ []) (lock_byte v ∷ [])
-
-abbrev pub lock_from : ℕ → Option Lock
-lock_from zero = some Free
-lock_from (suc zero) = some Foreign
-lock_from (suc (suc zero)) = some Ours
-lock_from (suc (suc (suc n))) = none
-
-abbrev pub lock_option : OptionLock → Option Lock
-lock_option NoLock = none
-lock_option (option_lock.Lock v) = some v
 
 unfoldable pub lock_in : List ℕ → Option Lock
 lock_in r = lock_from (val (cut 0 1 r))
@@ -131,7 +107,7 @@ line_from xs = record {
 }
 
 unfoldable pub line_in : List ℕ → Option Line
-line_in r = some (line_from (unfields 0 line_widths r))
+line_in r = Some (line_from (unfields 0 line_widths r))
 
 pub record FitsLine (l : Line) : Type 0 where
   pub name : l.name.0 < 2 ^ 16

@@ -1,8 +1,9 @@
 -- The rows of edits: they fit the table, and how far the loops over the edits are. Assumes nothing.
+use Rattle.std.specs.Prelude.{Option, Some, None}
+use Rattle.target.specs.declared.Target.{Target}
 use mathlib.Core.Path.{◌≡◌, refl, sym, ap, ◌∙◌, subst}
 use mathlib.Core.Bool.{Bool, true, false}
 use mathlib.Core.List.{List, [], ◌∷◌, ◌++◌}
-use mathlib.Core.Option.{none}
 use Prim.Native.Nat.{ℕ, ◌+◌, ◌-◌, ◌<◌, ◌≤◌, ◌^◌}
 use native.Mathlib.Numerals.{add-one}
 use native.Mathlib.Omega.{arith}
@@ -11,8 +12,6 @@ use lib.Seq.{take-suc, take_all}
 use lib.Dec.{ltb}
 use borrow.Author.Tests.{ltb-true}
 use Rattle.target.specs.declared.Target.TheVariants.{Object, Symbolic}
-use Rattle.target.specs.declared.OptionTarget.{OptionTarget}
-use Rattle.target.specs.declared.OptionTarget.TheVariants.{Absent, Present}
 use Rattle.transaction.specs.declared.RefEdit.{RefEdit}
 use Rattle.transaction.specs.declared.Edit.{Edit}
 use Rattle.transaction.specs.Change.{previous_value, new_value, row_of}
@@ -37,14 +36,14 @@ use Rattle.splits.proofs.Model.{map_append, asked}
 
 -- ---- what an edit says fits
 
-option_fits : (n : ℕ) (t : OptionTarget) → n ≤ 256 → fine_option n t ≡ true → FitsOption t
-option_fits n Absent h e = tt
-option_fits n (Present (Object o)) h e = let b = both_true (ltb 0 o.0) (ltb o.0 (2 ^ 64)) e in (ltb-true _ _ b.0, ltb-true _ _ b.1)
-option_fits n (Present (Symbolic m)) h e = let l : m.0 < n = ltb-true m.0 n e in omega arith
+option_fits : (n : ℕ) (t : Option Target) → n ≤ 256 → fine_option n t ≡ true → FitsOption t
+option_fits n None h e = tt
+option_fits n (Some (Object o)) h e = let b = both_true (ltb 0 o.0) (ltb o.0 (2 ^ 64)) e in (ltb-true _ _ b.0, ltb-true _ _ b.1)
+option_fits n (Some (Symbolic m)) h e = let l : m.0 < n = ltb-true m.0 n e in omega arith
 
 -- the model speaks of a store's names
 named : ℕ → Store
-named n = record { entries = replicate n no_entry; packed_lock = Free; lines = []; setting = Disable; prepared = none }
+named n = record { entries = replicate n no_entry; packed_lock = Free; lines = []; setting = Disable; prepared = None }
 
 registered_fine : (l : List ℕ) (g : Registered l) → All (FineEdit g.names) (edits_in l)
 unfolding named edits_in registered

@@ -1,5 +1,6 @@
 -- What each way through a function of one row says of the definitions. Assumes nothing.
-use mathlib.Core.Path.{◌≡◌, sym, ap, ◌∙◌}
+use Rattle.std.specs.Prelude.{Option, Some, None}
+use mathlib.Core.Path.{◌≡◌, refl, sym, ap, ◌∙◌}
 use mathlib.Core.Bool.{Bool, true, false, not}
 use mathlib.Core.List.{List, [], ◌∷◌, map}
 use Prim.Native.Nat.{ℕ, ◌+◌, ◌<◌, ◌≤◌}
@@ -10,8 +11,6 @@ use lib.Seq.{drop-cons}
 use borrow.Author.Tests.{not-true, not-false}
 use Rattle.target.specs.declared.NameNumber.{NameNumber}
 use Rattle.target.specs.declared.ObjectNumber.{ObjectNumber}
-use Rattle.target.specs.declared.OptionName.{OptionName}
-use Rattle.target.specs.declared.OptionName.TheVariants.{NoName, Name}
 use Rattle.target.specs.declared.Target.{Target}
 use Rattle.transaction.specs.declared.RefLog.{RefLog}
 use Rattle.transaction.specs.declared.RefLog.TheVariants.{Only}
@@ -21,13 +20,12 @@ use Rattle.transaction.specs.declared.PreviousValue.TheVariants.{Any}
 use Rattle.transaction.specs.declared.Change.{Change}
 use Rattle.transaction.specs.declared.Change.TheVariants.{Update, Delete}
 use Rattle.transaction.specs.declared.RefEdit.{RefEdit}
-use Rattle.transaction.specs.declared.ParentIndex.TheVariants.{Parent}
 use Rattle.transaction.specs.declared.Edit.{Edit}
 use Rattle.model.specs.declared.Loose.{Loose}
 use Rattle.model.specs.Basic.{any}
 use Rattle.model.specs.Store.{Store, Entry, no_entry, no_row, count, entry_of}
 use Rattle.model.specs.Rows.{name_in, change_in, row_at}
-use Rattle.model.specs.Split.{link_in, parent_change, settled_with, settled, child_of}
+use Rattle.model.specs.Split.{link_in, parent_change, settled_with, child_of}
 use Rattle.splits.specs.Round.{hide, followed, is_there, leads_on}
 
 -- ---- links
@@ -38,17 +36,17 @@ module _ (s : Store) (name : NameNumber) where
       let b : count s ≤ name.0 = rw (ek, em) at l in
       get_or-eq_default s.entries no_entry b
 
-  pub link_none : (m k : ℕ) → k ≡ name.0 → m ≡ count s → m ≤ k → NoName ≡ link_in (entry_of s name).loose
+  pub link_none : (m k : ℕ) → k ≡ name.0 → m ≡ count s → m ≤ k → None ≡ link_in (entry_of s name).loose
   link_none m k ek em l = sym (ap (λ (x : Entry). link_in x.loose) (no_entry_lem m k ek em l))
 
-  pub link_at : (l : Loose) (r : OptionName) → l ≡ (entry_of s name).loose → r ≡ link_in l → r ≡ link_in (entry_of s name).loose
+  pub link_at : (l : Loose) (r : Option NameNumber) → l ≡ (entry_of s name).loose → r ≡ link_in l → r ≡ link_in (entry_of s name).loose
   link_at l r e h = h ∙ ap link_in e
 
 module _ (s : Store) (follow : Bool) (row : Edit) where
-  pub not_followed : not follow ≡ true → NoName ≡ followed s follow row
+  pub not_followed : not follow ≡ true → None ≡ followed s follow row
   not_followed t = rw (not-true follow t)
 
-  pub is_followed : (r : OptionName) → not follow ≡ false → r ≡ link_in (entry_of s (name_in row)).loose → r ≡ followed s follow row
+  pub is_followed : (r : Option NameNumber) → not follow ≡ false → r ≡ link_in (entry_of s (name_in row)).loose → r ≡ followed s follow row
   is_followed r t h = rw (not-false follow t) h
 
 -- ---- R1
@@ -68,19 +66,12 @@ pub settled_is : (c : Change) (row : Edit) (u : RefEdit) → u ≡ record { chan
 unfolding with_update
 settled_is c row u e = ap (λ (u : RefEdit). with_update u row) e
 
-pub settle_none : (o : OptionName) (row x : Edit) → o ≡ NoName → x ≡ settled_with (change_in row) row → x ≡ settled o row
-settle_none o row x e h = rw e h
-
-pub settle_link : (o : OptionName) (n : NameNumber) (row x : Edit) (c : Change) → o ≡ Name n → c ≡ parent_change (change_in row)
-    → x ≡ settled_with c row → x ≡ settled o row
-settle_link o n row x c e f h = rw e (h ∙ ap (λ (c : Change). settled_with c row) f)
-
 pub child_is : (n : NameNumber) (i : ℕ) (row : Edit) (u : RefEdit) (o : ObjectNumber) → u ≡ record { change = change_in row; name = n; deref = false } → o.0 ≡ 0
-    → (record { update = u; parent_index = Parent i; leaf_referent_previous_oid = o } ∷ []) ≡ map hide (child_of (Name n) i row)
+    → (record { update = u; parent_index = Some i; leaf_referent_previous_oid = o } ∷ []) ≡ map hide (child_of (Some n) i row)
 child_is n i row u o e f = ap (λ (u : RefEdit). one u o) e ∙ ap (λ (x : ℕ). one (record { change = change_in row; name = n; deref = false }) (record { 0 = x })) f
   where
     one : RefEdit → ObjectNumber → List Edit
-    one u o = record { update = u; parent_index = Parent i; leaf_referent_previous_oid = o } ∷ []
+    one u o = record { update = u; parent_index = Some i; leaf_referent_previous_oid = o } ∷ []
 
 -- ---- whether a row leads on
 
@@ -89,14 +80,21 @@ module _ (s : Store) (rows : List Edit) (k : ℕ) (ek : k ≡ length rows) (i : 
   unfolding leads_on
   leads_none h = let g : length rows ≤ i = omega arith in ap (any (λ (r : Edit). is_there (followed s true r))) (sym (drop_of_length-le rows g)) ∙ w
 
-  module _ (o : OptionName) (x : Edit) (h : i < k) (ex : x ≡ row_at rows i) (eo : o ≡ followed s true x) where
+  module _ (o : Option NameNumber) (x : Edit) (h : i < k) (ex : x ≡ row_at rows i) (eo : o ≡ followed s true x) where
     leads_at : leads_on s i rows ≡ any (λ (r : Edit). is_there (followed s true r)) (x ∷ drop (i + 1) rows)
     unfolding leads_on
     leads_at = let g : i < length rows = omega arith in rw (add-one, ex, drop-cons rows i no_row)
 
-    pub leads_here : (n : NameNumber) → o ≡ Name n → true ≡ t
-    leads_here n e = rw (← eo, e) at (sym leads_at) ∙ w
+    there : (o : Option NameNumber) → Rattle.std.specs.Option.is_some o ≡ is_there o
+    there None = refl
+    there (Some n) = refl
 
-    pub leads_later : o ≡ NoName → leads_on s (i + 1) rows ≡ t
+    leads_by : (b : Bool) → b ≡ Rattle.std.specs.Option.is_some o → b ≡ is_there (followed s true x)
+    leads_by b e = e ∙ there o ∙ ap is_there eo
+
+    pub leads_here : (b : Bool) → b ≡ Rattle.std.specs.Option.is_some o → b ≡ true → true ≡ t
+    leads_here b eb e = rw (← leads_by b eb, e) at (sym leads_at) ∙ w
+
+    pub leads_later : (b : Bool) → b ≡ Rattle.std.specs.Option.is_some o → b ≡ false → leads_on s (i + 1) rows ≡ t
     unfolding leads_on
-    leads_later e = rw (← eo, e) at (sym leads_at) ∙ w
+    leads_later b eb e = rw (← leads_by b eb, e) at (sym leads_at) ∙ w

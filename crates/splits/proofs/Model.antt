@@ -1,12 +1,12 @@
 -- A round over the table is the model's round, with every row as the table has it. Assumes nothing.
+use Rattle.std.specs.Prelude.{Option, Some, None}
+use Rattle.target.specs.declared.NameNumber.{NameNumber}
 use mathlib.Core.Path.{◌≡◌, refl, sym, ap, ◌∙◌}
 use mathlib.Core.Bool.{Bool}
 use mathlib.Core.List.{List, [], ◌∷◌, ◌++◌, map, append-nil, append_assoc}
 use Prim.Native.Nat.{ℕ, ◌+◌}
 use lib.ListN.{length, set, length-append}
 use lib.Seq.{get_or-append_seam, set-append_seam}
-use Rattle.target.specs.declared.OptionName.{OptionName}
-use Rattle.target.specs.declared.OptionName.TheVariants.{NoName, Name}
 use Rattle.transaction.specs.declared.RefEdit.{RefEdit}
 use Rattle.transaction.specs.declared.Edit.{Edit}
 use Rattle.model.specs.Store.{Store, no_row}
@@ -17,13 +17,13 @@ pub map_append : {A B : Type 0} (f : A → B) (xs ys : List A) → map f (xs ++ 
 map_append f [] ys = refl
 map_append f (x ∷ xs) ys = ap (λ (l : List _). f x ∷ l) (map_append f xs ys)
 
-settled_hidden : (o : OptionName) (r : Edit) → settled o (hide r) ≡ settled o r
-settled_hidden NoName r = refl
-settled_hidden (Name n) r = refl
+settled_hidden : (o : Option NameNumber) (r : Edit) → settled o (hide r) ≡ settled o r
+settled_hidden None r = refl
+settled_hidden (Some n) r = refl
 
-child_hidden : (o : OptionName) (i : ℕ) (r : Edit) → child_of o i (hide r) ≡ child_of o i r
-child_hidden NoName i r = refl
-child_hidden (Name n) i r = refl
+child_hidden : (o : Option NameNumber) (i : ℕ) (r : Edit) → child_of o i (hide r) ≡ child_of o i r
+child_hidden None i r = refl
+child_hidden (Some n) i r = refl
 
 -- whether edits, and rows, are to be followed
 abbrev pub asked : List RefEdit → List Bool
@@ -42,10 +42,10 @@ module _ (s : Store) where
       ≡ (old ++ (settled (referent s r) r ∷ [])) ++ (rest ++ map hide (child_of (referent s r) (length old) r))
   unfolding stepped
   one_step old rest r =
-      let o : OptionName = referent s r in
+      let o : (Option NameNumber) = referent s r in
       let l : List Edit = old ++ (hide r ∷ rest) in
       ap (λ (x : Edit). step_by (followed s r.update.deref x) (length old) l) (get_or-append_seam old (hide r) rest no_row)
-      ∙ ap (λ (o : OptionName). step_by o (length old) l) (followed_is r)
+      ∙ ap (λ (o : Option NameNumber). step_by o (length old) l) (followed_is r)
       ∙ ap (λ (x : Edit). set l (length old) (settled o x) ++ map hide (child_of o (length old) x)) (get_or-append_seam old (hide r) rest no_row)
       ∙ ap (λ (x : Edit). set l (length old) x ++ map hide (child_of o (length old) (hide r))) (settled_hidden o r)
       ∙ ap (λ (k : List Edit). set l (length old) (settled o r) ++ map hide k) (child_hidden o (length old) r)
@@ -58,7 +58,7 @@ module _ (s : Store) where
   unfolding steps settle_all
   round_is [] old kids = simp append-nil
   round_is (r ∷ rs) old kids =
-      let o : OptionName = referent s r in
+      let o : (Option NameNumber) = referent s r in
       let x : List Edit = old ++ (settled o r ∷ []) in
       let k : List Edit = kids ++ map hide (child_of o (length old) r) in
       let n : length old + 1 ≡ length x = sym (length-append old (settled o r ∷ [])) in

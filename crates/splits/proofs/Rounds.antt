@@ -1,9 +1,10 @@
 -- Five rounds: the first over the rows of the edits, then three over the newest rows, of which the table has no mark; the fifth only
 -- asks whether a row leads on. Assumes nothing.
+use Rattle.std.specs.Prelude.{Option, Some, None, Result, Ok, Err}
+use Rattle.model.specs.declared.Refusal.{Refusal}
 use mathlib.Core.Path.{◌≡◌, refl, sym, ap, ap₂, ◌∙◌}
 use mathlib.Core.Bool.{Bool, true, false, ◌||◌, cond, false≢true}
 use mathlib.Core.List.{List, [], ◌∷◌, ◌++◌, map, append-nil}
-use mathlib.Core.Option.{Option}
 use Prim.Native.Nat.{ℕ, zero, suc, ◌+◌, ◌-◌, ◌<◌, ◌≤◌}
 use native.Mathlib.Omega.{arith}
 use lib.ListN.{length, take, drop, replicate, take-append-drop, length-append, length-map, length-drop}
@@ -11,8 +12,6 @@ use lib.Seq.{get_or-drop, length-take-le, take_at, drop_at}
 use lib.Dec.{ltb}
 use borrow.Author.Tests.{le-ltb}
 use Rattle.target.specs.declared.NameNumber.{NameNumber}
-use Rattle.target.specs.declared.OptionName.{OptionName}
-use Rattle.target.specs.declared.OptionName.TheVariants.{NoName, Name}
 use Rattle.transaction.specs.declared.RefEdit.{RefEdit}
 use Rattle.transaction.specs.declared.Edit.{Edit}
 use Rattle.transaction.specs.Change.{row_of}
@@ -20,8 +19,6 @@ use Rattle.model.specs.declared.Refusal.TheVariants.{ReferenceCycle, TooManyRows
 use Rattle.model.specs.Basic.{any}
 use Rattle.model.specs.Store.{Store, Prepared, no_row, rows_as, with_prepared, with_rows}
 use Rattle.model.specs.Rows.{name_in, change_in, row_at}
-use Rattle.model.specs.Outcome.{Outcome}
-use Rattle.model.specs.Outcome.Outcome.{refuse, pass}
 use Rattle.model.specs.Split.{referent, settled, child_of, settle_all, children_from, rounds, splits, repeated, lesser, least, or_multiple, one_name_one_edit}
 use Rattle.splits.specs.Round.{hide, hidden_rows, followed, is_there, leads_on, stepped, steps}
 use Rattle.splits.proofs.Model.{asked, flags, round_is, map_append}
@@ -64,13 +61,13 @@ shown_flags (r ∷ rs) = ap (λ (l : List Bool). true ∷ l) (shown_flags rs)
 
 -- ---- children: each row has at most one, which is to be followed
 
-child_shown : (o : OptionName) (i : ℕ) (r : Edit) → map shown (map hide (child_of o i r)) ≡ child_of o i r
-child_shown NoName i r = refl
-child_shown (Name n) i r = refl
+child_shown : (o : Option NameNumber) (i : ℕ) (r : Edit) → map shown (map hide (child_of o i r)) ≡ child_of o i r
+child_shown None i r = refl
+child_shown (Some n) i r = refl
 
-child_few : (o : OptionName) (i : ℕ) (r : Edit) → length (child_of o i r) ≤ 1
-child_few NoName i r = omega arith
-child_few (Name n) i r = omega arith
+child_few : (o : Option NameNumber) (i : ℕ) (r : Edit) → length (child_of o i r) ≤ 1
+child_few None i r = omega arith
+child_few (Some n) i r = omega arith
 
 module _ (s : Store) where
   children_shown : (i : ℕ) (rows : List Edit) → map shown (map hide (children_from s i rows)) ≡ children_from s i rows
@@ -96,21 +93,21 @@ module _ (s : Store) where
   round_step : (k : ℕ) (old new : List Edit) → length old + length new ≤ 160
       → rounds s (suc k) old new ≡ rounds s k (old ++ settle_all s new) (children_from s (length old) new)
   unfolding rounds settle_all
-  round_step zero old [] h = ap pass (sym (append-nil old))
-  round_step (suc k) old [] h = ap pass (sym (append-nil old))
+  round_step zero old [] h = ap Ok (sym (append-nil old))
+  round_step (suc k) old [] h = ap Ok (sym (append-nil old))
   round_step k old (r ∷ rs) h =
       ap
-      (λ (t : Bool). cond t (refuse TooManyRows) (rounds s k (old ++ settle_all s (r ∷ rs)) (children_from s (length old) (r ∷ rs))))
+      (λ (t : Bool). cond t (Err TooManyRows) (rounds s k (old ++ settle_all s (r ∷ rs)) (children_from s (length old) (r ∷ rs))))
       (le-ltb 160 (length old + length (r ∷ rs)) h)
 
   -- ---- the fifth
 
-  none_step : (o : OptionName) (i : ℕ) (r : Edit) (rs xs kids : List Edit) (t : Bool) → r.update.deref ≡ false → (is_there o || t) ≡ false
+  none_step : (o : Option NameNumber) (i : ℕ) (r : Edit) (rs xs kids : List Edit) (t : Bool) → r.update.deref ≡ false → (is_there o || t) ≡ false
       → (t ≡ false → (xs ≡ rs) × (kids ≡ [])) → (settled o (shown r) ∷ xs ≡ r ∷ rs) × (child_of o i (shown r) ++ kids ≡ [])
-  none_step NoName i r rs xs kids t d e f =
+  none_step None i r rs xs kids t d e f =
       let g : (xs ≡ rs) × (kids ≡ []) = f e in
       (ap₂ (λ (x : Edit) (xs : List Edit). x ∷ xs) (hide_shown r d) g.0, g.1)
-  none_step (Name n) i r rs xs kids t d e f = absurd (false≢true (sym e))
+  none_step (Some n) i r rs xs kids t d e f = absurd (false≢true (sym e))
 
   nobody_leads : (i : ℕ) (rows : List Edit) → Hidden rows → any (λ (r : Edit). is_there (followed s true r)) rows ≡ false
       → (settle_all s (map shown rows) ≡ rows) × (children_from s i (map shown rows) ≡ [])
@@ -120,14 +117,14 @@ module _ (s : Store) where
       none_step (followed s true r) i r rs (settle_all s (map shown rs)) (children_from s (i + 1) (map shown rs)) _ (d 0 (omega arith)) e
       (nobody_leads (i + 1) rs (hidden_rest r rs d))
 
-  some_step : (o : OptionName) (i : ℕ) (r : Edit) (old kids : List Edit) (t : Bool) → (is_there o || t) ≡ true
-      → (t ≡ true → rounds s 0 old kids ≡ refuse ReferenceCycle) → rounds s 0 old (child_of o i r ++ kids) ≡ refuse ReferenceCycle
+  some_step : (o : Option NameNumber) (i : ℕ) (r : Edit) (old kids : List Edit) (t : Bool) → (is_there o || t) ≡ true
+      → (t ≡ true → rounds s 0 old kids ≡ Err ReferenceCycle) → rounds s 0 old (child_of o i r ++ kids) ≡ Err ReferenceCycle
   unfolding rounds
-  some_step NoName i r old kids t e f = f e
-  some_step (Name n) i r old kids t e f = refl
+  some_step None i r old kids t e f = f e
+  some_step (Some n) i r old kids t e f = refl
 
   somebody_leads : (i : ℕ) (old rows : List Edit) → any (λ (r : Edit). is_there (followed s true r)) rows ≡ true
-      → rounds s 0 old (children_from s i (map shown rows)) ≡ refuse ReferenceCycle
+      → rounds s 0 old (children_from s i (map shown rows)) ≡ Err ReferenceCycle
   unfolding referent
   somebody_leads i old [] e = absurd (false≢true e)
   somebody_leads i old (r ∷ rs) e =
@@ -153,7 +150,7 @@ module _ (s : Store) (q : Option Prepared) where
   rounds_of zero old (r ∷ rs) = refl
   rounds_of (suc k) old [] = refl
   rounds_of (suc k) old (r ∷ rs) =
-      ap (λ (o : Outcome (List Edit)). cond (ltb 160 (length old + length (r ∷ rs))) (refuse TooManyRows) o)
+      ap (λ (o : Result (List Edit) Refusal). cond (ltb 160 (length old + length (r ∷ rs))) (Err TooManyRows) o)
       (rounds_of k (old ++ settle_all s (r ∷ rs)) (children_from (with_prepared s q) (length old) (r ∷ rs))
       ∙ ap (rounds s k (old ++ settle_all s (r ∷ rs))) (children_of (length old) (r ∷ rs)))
 
@@ -161,9 +158,9 @@ module _ (s : Store) (q : Option Prepared) where
   unfolding splits
   splits_of rows = rounds_of 5 [] rows
 
-  lesser_of : (n : NameNumber) (o : OptionName) → lesser (with_prepared s q) n o ≡ lesser s n o
-  lesser_of n NoName = refl
-  lesser_of n (Name m) = refl
+  lesser_of : (n : NameNumber) (o : Option NameNumber) → lesser (with_prepared s q) n o ≡ lesser s n o
+  lesser_of n None = refl
+  lesser_of n (Some m) = refl
 
   least_of : (ns : List NameNumber) → least (with_prepared s q) ns ≡ least s ns
   least_of [] = refl
@@ -175,7 +172,7 @@ module _ (s : Store) (q : Option Prepared) where
 
 -- ---- what is left of the rounds, by the table: the rows before place `first` are settled, and the others are the newest
 
-unfoldable pub onward : Store → ℕ → ℕ → List Edit → Outcome (List Edit)
+unfoldable pub onward : Store → ℕ → ℕ → List Edit → Result (List Edit) Refusal
 onward s left first rows = rounds s left (take first rows) (map shown (drop first rows))
 
 pub onward_of : (s : Store) (l : List Edit) (left first : ℕ) (rows : List Edit) → onward (with_rows s l) left first rows ≡ onward s left first rows
@@ -254,15 +251,15 @@ module _ (s : Store) (first : ℕ) (rows : List Edit) (h : first ≤ length rows
   unfolding onward old new
   last_round g = let a = old_length in let b = new_length in round_step s 0 old new (omega arith)
 
-  pub onward_passes : length rows ≤ 160 → leads_on s first rows ≡ false → onward s 1 first rows ≡ pass rows
+  pub onward_passes : length rows ≤ 160 → leads_on s first rows ≡ false → onward s 1 first rows ≡ Ok rows
   unfolding leads_on new old rounds
   onward_passes g e =
       let n : (settle_all s new ≡ drop first rows) × (children_from s (length old) new ≡ []) = nobody_leads s (length old) (drop first rows) (hidden_drop first rows d) e in
       last_round g
       ∙ ap₂ (λ (x y : List Edit). rounds s 0 (old ++ x) y) n.0 n.1
-      ∙ ap pass (take-append-drop first rows)
+      ∙ ap Ok (take-append-drop first rows)
 
-  pub onward_cycles : length rows ≤ 160 → leads_on s first rows ≡ true → onward s 1 first rows ≡ refuse ReferenceCycle
+  pub onward_cycles : length rows ≤ 160 → leads_on s first rows ≡ true → onward s 1 first rows ≡ Err ReferenceCycle
   unfolding leads_on new old
   onward_cycles g e = last_round g ∙ somebody_leads s (length old) (old ++ settle_all s new) (drop first rows) e
 

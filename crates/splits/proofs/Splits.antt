@@ -1,4 +1,6 @@
 -- The five rounds over the region: how far their loop is, and what it leaves. Assumes nothing.
+use Rattle.std.specs.Prelude.{Result, Ok, Err}
+use Rattle.model.specs.declared.Refusal.{Refusal}
 use mathlib.Core.Path.{◌≡◌, refl, sym, ap, ◌∙◌}
 use mathlib.Core.Bool.{Bool, true, false}
 use mathlib.Core.List.{List, [], map}
@@ -9,8 +11,6 @@ use Rattle.word.specs.Codec.{is_some}
 use Rattle.transaction.specs.declared.RefEdit.{RefEdit}
 use Rattle.transaction.specs.declared.Edit.{Edit}
 use Rattle.transaction.specs.Change.{row_of}
-use Rattle.model.specs.declared.Judged.{Judged}
-use Rattle.model.specs.declared.Judged.TheVariants.{Passed, Refused}
 use Rattle.model.specs.declared.Refusal.TheVariants.{ReferenceCycle}
 use Rattle.model.specs.EditList.{edits_of}
 use Rattle.model.specs.Store.{Store, rows_in, is_prepared, with_rows}
@@ -49,11 +49,12 @@ pub record Ahead (r₁ : List ℕ) (first₁ n : ℕ) (r : List ℕ) (first left
   pub seen : view r ≡ with_rows (view r₁) (rows_in (view r).prepared)
   pub whole : onward (view r₁) (suc left) first (rows_in (view r).prepared) ≡ onward (view r₁) (suc n) first₁ (rows_in (view r₁).prepared)
 
-pub ahead_more : (r₁ r r' : List ℕ) (first₁ n first left end : ℕ) → Ahead r₁ first₁ n r first left → 0 < left → end ≡ length (rows_in (view r).prepared)
+pub ahead_more : (r₁ r r' : List ℕ) (first₁ n first k end : ℕ) → Ahead r₁ first₁ n r first (n - k) → k < n → end ≡ length (rows_in (view r).prepared)
     → length r' ≡ length r
     → Became r' (with_rows (view r) (steps (view r) (replicate (length (rows_in (view r).prepared) - first) true) first (rows_in (view r).prepared)))
-    → Ahead r₁ first₁ n r' end (left - 1)
-ahead_more r₁ r r' first₁ n first left end f h ee el w =
+    → Ahead r₁ first₁ n r' end (n - (k + 1))
+ahead_more r₁ r r' first₁ n first k end f h ee el w =
+    let left : ℕ = n - (k + 1) in
     let s : Store = view r₁ in
     let l : List Edit = rows_in (view r).prepared in
     let fs : List Bool = replicate (length l - first) true in
@@ -62,7 +63,7 @@ ahead_more r₁ r r' first₁ n first left end f h ee el w =
     let e₂ : rows_in (view r').prepared ≡ steps s fs first l = rows_seen r' (view r) _ w f.prepared ∙ e₁ in
     let m : length (rows_in (view r').prepared) ≡ length (steps s fs first l) = ap length e₂ in
     let g = round_length s first l f.few d in
-    let k : suc (left - 1) ≡ left = omega arith in
+    let q : suc left ≡ n - k = omega arith in
     record {
       laid = w.laid;
       same = el ∙ f.same;
@@ -72,10 +73,10 @@ ahead_more r₁ r r' first₁ n first left end f h ee el w =
       room = omega (arith, f.room, f.newest);
       seen = w.seen ∙ other_rows s (view r) l (steps (view r) fs first l) f.seen ∙ ap (with_rows s) (e₁ ∙ sym e₂);
       whole =
-          ap (onward s (suc (left - 1)) end) e₂
-          ∙ ap (λ (end : ℕ). onward s (suc (left - 1)) end (steps s fs first l)) ee
-          ∙ onward_round s first l f.few d (suc (left - 1)) f.laid.rows
-          ∙ ap (λ (k : ℕ). onward s (suc k) first l) k
+          ap (onward s (suc left) end) e₂
+          ∙ ap (λ (end : ℕ). onward s (suc left) end (steps s fs first l)) ee
+          ∙ onward_round s first l f.few d (suc left) f.laid.rows
+          ∙ ap (λ (k : ℕ). onward s (suc k) first l) q
           ∙ f.whole;
     }
 
@@ -114,15 +115,15 @@ module _ (r₀ r₁ list : List ℕ) (first₁ : ℕ) (y : is_prepared (view r�
       ∙ ap (λ (k : ℕ). onward (view r₀) 4 k (steps (view r₀) (asked (edits_in list)) 0 (hidden_rows (edits_in list)))) es_length
       ∙ onward_first (view r₀) (edits_in list) (edits_32 list hl)
 
-  module _ (r : List ℕ) (first left : ℕ) (f : Ahead r₁ first₁ 3 r first left) (z : left ≤ 0) where
-    taken_by : (j : Judged) → onward (view r₁) 1 first (rows_in (view r).prepared) ≡ outcome_by j (rows_in (view r).prepared)
+  module _ (r : List ℕ) (first k : ℕ) (f : Ahead r₁ first₁ 3 r first (3 - k)) (z : 3 ≤ k) where
+    taken_by : (j : (Result (Unit {0}) Refusal)) → onward (view r₁) 1 first (rows_in (view r).prepared) ≡ outcome_by j (rows_in (view r).prepared)
         → Taken r₀ r j (splits (view r₀) (map row_of (edits_in list)))
     taken_by j e =
-        let k : 0 ≡ left = omega arith in
+        let q : 0 ≡ 3 - k = omega arith in
         record {
           laid = f.laid;
           seen = f.seen ∙ other_rows (view r₀) (view r₁) _ (rows_in (view r).prepared) b.seen;
-          whole = sym e ∙ ap (λ (k : ℕ). onward (view r₁) (suc k) first (rows_in (view r).prepared)) k ∙ f.whole ∙ begun;
+          whole = sym e ∙ ap (λ (k : ℕ). onward (view r₁) (suc k) first (rows_in (view r).prepared)) q ∙ f.whole ∙ begun;
         }
 
     leads_is : (t : Bool) → t ≡ leads_on (view r) first (rows_in (view r).prepared) → leads_on (view r₁) first (rows_in (view r).prepared) ≡ t
@@ -130,11 +131,11 @@ module _ (r₀ r₁ list : List ℕ) (first₁ : ℕ) (y : is_prepared (view r�
     leads_is t e = sym (e ∙ ap (λ (s : Store). leads_on s first (rows_in (view r).prepared)) f.seen)
 
     pub taken_passed : (t : Bool) → t ≡ leads_on (view r) first (rows_in (view r).prepared) → t ≡ false
-        → Taken r₀ r Passed (splits (view r₀) (map row_of (edits_in list)))
+        → Taken r₀ r (Ok tt) (splits (view r₀) (map row_of (edits_in list)))
     taken_passed t e q =
-        taken_by Passed (onward_passes (view r₁) first (rows_in (view r).prepared) f.few (hidden_laid r f.laid) f.laid.rows (leads_is t e ∙ q))
+        taken_by (Ok tt) (onward_passes (view r₁) first (rows_in (view r).prepared) f.few (hidden_laid r f.laid) f.laid.rows (leads_is t e ∙ q))
 
     pub taken_cycle : (t : Bool) → t ≡ leads_on (view r) first (rows_in (view r).prepared) → t ≡ true
-        → Taken r₀ r (Refused ReferenceCycle) (splits (view r₀) (map row_of (edits_in list)))
+        → Taken r₀ r (Err ReferenceCycle) (splits (view r₀) (map row_of (edits_in list)))
     taken_cycle t e q =
-        taken_by (Refused ReferenceCycle) (onward_cycles (view r₁) first (rows_in (view r).prepared) f.few (hidden_laid r f.laid) f.laid.rows (leads_is t e ∙ q))
+        taken_by (Err ReferenceCycle) (onward_cycles (view r₁) first (rows_in (view r).prepared) f.few (hidden_laid r f.laid) f.laid.rows (leads_is t e ∙ q))

@@ -1,4 +1,5 @@
 -- What a round over the table rests on: one row of it, and how far its loop is. Assumes nothing.
+use Rattle.std.specs.Prelude.{Option, Some, None}
 use mathlib.Core.Path.{◌≡◌, refl, sym, ap, ◌∙◌, subst}
 use mathlib.Core.Bool.{Bool, true, false}
 use mathlib.Core.List.{List, [], ◌∷◌, ◌++◌, map, append-nil}
@@ -8,8 +9,6 @@ use native.Mathlib.Omega.{arith}
 use lib.ListN.{length, get_or, set, drop, replicate, length-set, length-append, length-replicate, get_or-replicate, drop_of_length-le}
 use lib.Seq.{drop-cons}
 use Rattle.target.specs.declared.NameNumber.{NameNumber}
-use Rattle.target.specs.declared.OptionName.{OptionName}
-use Rattle.target.specs.declared.OptionName.TheVariants.{NoName, Name}
 use Rattle.transaction.specs.declared.Edit.{Edit}
 use Rattle.model.specs.Store.{Store, rows_in, is_prepared, with_rows}
 use Rattle.model.specs.Rows.{row_at}
@@ -22,7 +21,7 @@ use Rattle.splits.specs.Round.{hide, followed, step_by, stepped, steps}
 
 -- ---- one row
 
-module _ (r r₁ : List ℕ) (i : ℕ) (follow : Bool) (x kept : Edit) (o : OptionName)
+module _ (r r₁ : List ℕ) (i : ℕ) (follow : Bool) (x kept : Edit) (o : Option NameNumber)
     (y : is_prepared (view r).prepared ≡ true)
     (ex : x ≡ row_at (rows_in (view r).prepared) i) (eo : o ≡ followed (view r) follow x) (ek : kept ≡ settled o x)
     (b : Became r₁ (with_rows (view r) (set (rows_in (view r).prepared) i kept))) where
@@ -30,17 +29,17 @@ module _ (r r₁ : List ℕ) (i : ℕ) (follow : Bool) (x kept : Edit) (o : Opti
   unfolding stepped
   step_to =
       ap (λ (z : Edit). step_by (followed (view r) follow z) i (rows_in (view r).prepared)) (sym ex)
-      ∙ ap (λ (o : OptionName). step_by o i (rows_in (view r).prepared)) (sym eo)
+      ∙ ap (λ (o : Option NameNumber). step_by o i (rows_in (view r).prepared)) (sym eo)
       ∙ ap (λ (z : Edit). set (rows_in (view r).prepared) i (settled o z) ++ map hide (child_of o i z)) (sym ex)
       ∙ ap (λ (z : Edit). set (rows_in (view r).prepared) i z ++ map hide (child_of o i x)) (sym ek)
 
-  pub step_none : o ≡ NoName → Became r₁ (with_rows (view r) (stepped (view r) follow i (rows_in (view r).prepared)))
+  pub step_none : o ≡ None → Became r₁ (with_rows (view r) (stepped (view r) follow i (rows_in (view r).prepared)))
   step_none e =
       subst (λ (l : List Edit). Became r₁ (with_rows (view r) l))
-      (sym (step_to ∙ ap (λ (o : OptionName). set (rows_in (view r).prepared) i kept ++ map hide (child_of o i x)) e ∙ append-nil _)) b
+      (sym (step_to ∙ ap (λ (o : Option NameNumber). set (rows_in (view r).prepared) i kept ++ map hide (child_of o i x)) e ∙ append-nil _)) b
 
   pub room_left : (n : NameNumber) (c : Edit) → Laid r → i < length (rows_in (view r).prepared) → length (rows_in (view r).prepared) < 160
-      → o ≡ Name n → (c ∷ []) ≡ map hide (child_of (Name n) i x)
+      → o ≡ Some n → (c ∷ []) ≡ map hide (child_of (Some n) i x)
       → (is_prepared (view r₁).prepared ≡ true) × ((length (rows_in (view r₁).prepared) < 160) × FitsRow c)
   room_left n c l g h e ec = (
     still_prepared r₁ (view r) _ b y,
@@ -50,14 +49,14 @@ module _ (r r₁ : List ℕ) (i : ℕ) (follow : Bool) (x kept : Edit) (o : Opti
     ),
   )
 
-  pub step_split : (r₂ : List ℕ) (n : NameNumber) (c : Edit) → o ≡ Name n → (c ∷ []) ≡ map hide (child_of (Name n) i x)
+  pub step_split : (r₂ : List ℕ) (n : NameNumber) (c : Edit) → o ≡ Some n → (c ∷ []) ≡ map hide (child_of (Some n) i x)
       → Became r₂ (with_rows (view r₁) (rows_in (view r₁).prepared ++ (c ∷ [])))
       → Became r₂ (with_rows (view r) (stepped (view r) follow i (rows_in (view r).prepared)))
   step_split r₂ n c e ec b₂ =
       subst (Became r₂)
       (other_rows (view r) (view r₁) _ (rows_in (view r₁).prepared ++ (c ∷ [])) b.seen
       ∙ ap (λ (l : List Edit). with_rows (view r) (l ++ (c ∷ []))) (rows_seen r₁ (view r) _ b y)
-      ∙ ap (λ (l : List Edit). with_rows (view r) (set (rows_in (view r).prepared) i kept ++ l)) (ec ∙ ap (λ (o : OptionName). map hide (child_of o i x)) (sym e))
+      ∙ ap (λ (l : List Edit). with_rows (view r) (set (rows_in (view r).prepared) i kept ++ l)) (ec ∙ ap (λ (o : Option NameNumber). map hide (child_of o i x)) (sym e))
       ∙ ap (with_rows (view r)) (sym step_to))
       b₂
 
@@ -67,9 +66,9 @@ length_step : (s : Store) (follow : Bool) (i : ℕ) (l : List Edit) → (length 
 unfolding stepped
 length_step s follow i l = go (followed s follow (row_at l i))
   where
-    go : (o : OptionName) → (length l ≤ length (step_by o i l)) × (length (step_by o i l) ≤ length l + 1)
-    go NoName = (simp (length-append, length-set) (omega arith), simp (length-append, length-set) (omega arith))
-    go (Name n) = (simp (length-append, length-set) (omega arith), simp (length-append, length-set) (omega arith))
+    go : (o : Option NameNumber) → (length l ≤ length (step_by o i l)) × (length (step_by o i l) ≤ length l + 1)
+    go None = (simp (length-append, length-set) (omega arith), simp (length-append, length-set) (omega arith))
+    go (Some n) = (simp (length-append, length-set) (omega arith), simp (length-append, length-set) (omega arith))
 
 -- how far the loop over n rows from place `first` on is: the rows so far, and that what is left of the round gives the whole
 pub record Far (fs : List Bool) (n first : ℕ) (r₀ : List ℕ) (i : ℕ) (r : List ℕ) : Type 0 where

@@ -1,4 +1,5 @@
 -- 6: two rows, one name. Assumes nothing.
+use Rattle.std.specs.Prelude.{Option, Some, None, Ok, Err}
 use mathlib.Core.Path.{◌≡◌, refl, sym, ap, ap₂, ◌∙◌, subst}
 use mathlib.Core.Bool.{Bool, true, false, ◌||◌, cond}
 use mathlib.Core.List.{List, [], ◌∷◌, map}
@@ -12,8 +13,6 @@ use borrow.Author.Tests.{eqb-true, eqb-false, eq-eqb, ne_eqb}
 use Rattle.word.specs.Flags.{Flags, nowhere}
 use Rattle.word.proofs.Flags.{raised}
 use Rattle.target.specs.declared.NameNumber.{NameNumber}
-use Rattle.target.specs.declared.OptionName.{OptionName}
-use Rattle.target.specs.declared.OptionName.TheVariants.{NoName, Name}
 use Rattle.target.specs.Target.{same_name}
 use Rattle.transaction.specs.declared.Edit.{Edit}
 use Rattle.model.specs.declared.Refusal.TheVariants.{MultipleEdits}
@@ -21,7 +20,6 @@ use Rattle.model.specs.Basic.{any}
 use Rattle.model.specs.Names.{before}
 use Rattle.model.specs.Store.{Store, Entry, no_row, count, name_of}
 use Rattle.model.specs.Rows.{name_in, row_at}
-use Rattle.model.specs.Outcome.Outcome.{refuse, pass}
 use Rattle.model.specs.Split.{repeated, lesser, least, or_multiple, one_name_one_edit}
 use Rattle.splits.specs.Twice.{behind, Repeats, least_from}
 use Rattle.splits.proofs.Laws.{no_entry_lem}
@@ -31,19 +29,19 @@ bytes_none s name m k ek em l = sym (ap (λ (x : Entry). x.name) (no_entry_lem s
 
 -- ---- the lesser of two
 
-module _ (s : Store) (n : NameNumber) (o : OptionName) where
-  pub lesser_none : o ≡ NoName → Name n ≡ lesser s n o
+module _ (s : Store) (n : NameNumber) (o : Option NameNumber) where
+  pub lesser_none : o ≡ None → Some n ≡ lesser s n o
   lesser_none e = rw e
 
-  module _ (m : NameNumber) (x y : List ℕ) (b : Bool) (eo : o ≡ Name m) (ex : x ≡ name_of s n) (ey : y ≡ name_of s m) (eb : b ≡ before x y) where
-    lesser_by : lesser s n o ≡ cond b (Name n) (Name m)
-    lesser_by = ap (lesser s n) eo ∙ ap (λ (t : Bool). cond t (Name n) (Name m)) (sym (eb ∙ ap₂ before ex ey))
+  module _ (m : NameNumber) (x y : List ℕ) (b : Bool) (eo : o ≡ Some m) (ex : x ≡ name_of s n) (ey : y ≡ name_of s m) (eb : b ≡ before x y) where
+    lesser_by : lesser s n o ≡ cond b (Some n) (Some m)
+    lesser_by = ap (lesser s n) eo ∙ ap (λ (t : Bool). cond t (Some n) (Some m)) (sym (eb ∙ ap₂ before ex ey))
 
-    pub lesser_first : b ≡ true → Name n ≡ lesser s n o
-    lesser_first e = sym (lesser_by ∙ ap (λ (t : Bool). cond t (Name n) (Name m)) e)
+    pub lesser_first : b ≡ true → Some n ≡ lesser s n o
+    lesser_first e = sym (lesser_by ∙ ap (λ (t : Bool). cond t (Some n) (Some m)) e)
 
-    pub lesser_second : b ≡ false → Name m ≡ lesser s n o
-    lesser_second e = sym (lesser_by ∙ ap (λ (t : Bool). cond t (Name n) (Name m)) e)
+    pub lesser_second : b ≡ false → Some m ≡ lesser s n o
+    lesser_second e = sym (lesser_by ∙ ap (λ (t : Bool). cond t (Some n) (Some m)) e)
 
 -- ---- names from a place on
 
@@ -108,11 +106,11 @@ repeats_so rows i k name again flags flags' h f en ea ek e = record {
 -- ---- the least that stands twice, from a place on
 
 module _ (s : Store) (rows : List Edit) where
-  pub least_start : (i : ℕ) → i ≡ length rows → NoName ≡ least_from s rows i
+  pub least_start : (i : ℕ) → i ≡ length rows → None ≡ least_from s rows i
   unfolding least_from
   least_start i e = ap (λ (l : List NameNumber). least s (repeated l)) (sym (names_past rows i (omega arith)))
 
-  module _ (k : ℕ) (b : Bool) (flags : List Bool) (o : OptionName) (h : 0 < k) (g : k ≤ length rows)
+  module _ (k : ℕ) (b : Bool) (flags : List Bool) (o : Option NameNumber) (h : 0 < k) (g : k ≤ length rows)
       (rep : Repeats rows (k - 1) b flags) (w : o ≡ least_from s rows k) where
     least_rest : least s (repeated (map name_in (drop (k - 1 + 1) rows))) ≡ o
     unfolding least_from
@@ -127,7 +125,7 @@ module _ (s : Store) (rows : List Edit) where
         ap (λ (l : List NameNumber). least s (repeated l)) (names_at rows (k - 1) (omega arith))
         ∙ ap (λ (t : Bool). least s (cond t (n ∷ repeated rest) (repeated rest))) (sym rep.answer)
 
-    pub least_more : (n : NameNumber) (x : OptionName) → b ≡ true → n ≡ name_in (row_at rows (k - 1)) → x ≡ lesser s n o → x ≡ least_from s rows (k - 1)
+    pub least_more : (n : NameNumber) (x : Option NameNumber) → b ≡ true → n ≡ name_in (row_at rows (k - 1)) → x ≡ lesser s n o → x ≡ least_from s rows (k - 1)
     least_more n x e en ex =
         ex
         ∙ ap (λ (n : NameNumber). lesser s n o) en
@@ -137,17 +135,17 @@ module _ (s : Store) (rows : List Edit) where
     pub least_same : b ≡ false → o ≡ least_from s rows (k - 1)
     least_same e = sym least_rest ∙ sym (rw e at least_at)
 
-  pub least_end : (i : ℕ) (o : OptionName) → i ≤ 0 → o ≡ least_from s rows i → o ≡ least_from s rows 0
+  pub least_end : (i : ℕ) (o : Option NameNumber) → i ≤ 0 → o ≡ least_from s rows i → o ≡ least_from s rows 0
   least_end i o h w = let e : i ≡ 0 = omega arith in w ∙ ap (least_from s rows) e
 
-  least_all : (o : OptionName) → o ≡ least_from s rows 0 → or_multiple o ≡ one_name_one_edit s rows
+  least_all : (o : Option NameNumber) → o ≡ least_from s rows 0 → or_multiple o ≡ one_name_one_edit s rows
   unfolding least_from one_name_one_edit
   least_all o w = ap or_multiple w
 
-  pub least_none : (o : OptionName) → o ≡ least_from s rows 0 → o ≡ NoName → pass tt ≡ one_name_one_edit s rows
+  pub least_none : (o : Option NameNumber) → o ≡ least_from s rows 0 → o ≡ None → Ok tt ≡ one_name_one_edit s rows
   least_none o w e = ap or_multiple (sym e) ∙ least_all o w
 
-  pub least_found : (o : OptionName) (n : NameNumber) → o ≡ least_from s rows 0 → o ≡ Name n → refuse (MultipleEdits n) ≡ one_name_one_edit s rows
+  pub least_found : (o : Option NameNumber) (n : NameNumber) → o ≡ least_from s rows 0 → o ≡ Some n → Err (MultipleEdits n) ≡ one_name_one_edit s rows
   least_found o n w e = ap or_multiple (sym e) ∙ least_all o w
 
 -- ---- the loop's turn: the flags, and the place below

@@ -1,8 +1,7 @@
 -- A round of R1 place by place over the region's own table. A row in the table has no mark that its name is to be followed, so
 -- that is told beside it: a flag for each row of the round.
-use Rattle.std.specs.Prelude.{Bool, true, false, cond, List, [], ◌∷◌, ◌++◌, map, ℕ, ◌+◌, set, drop}
-use Rattle.target.specs.declared.OptionName.{OptionName}
-use Rattle.target.specs.declared.OptionName.TheVariants.{NoName, Name}
+use Rattle.target.specs.declared.NameNumber.{NameNumber}
+use Rattle.std.specs.Prelude.{Bool, true, false, cond, List, [], ◌∷◌, ◌++◌, map, ℕ, ◌+◌, set, drop, Option, Some, None}
 use Rattle.transaction.specs.declared.RefEdit.{RefEdit}
 use Rattle.transaction.specs.declared.Edit.{Edit}
 use Rattle.transaction.specs.Change.{row_of}
@@ -19,10 +18,10 @@ hide r = settled_with (change_in r) r
 abbrev pub hidden_rows : List RefEdit → List Edit
 hidden_rows es = map (λ (e : RefEdit). hide (row_of e)) es
 
-abbrev pub followed : Store → Bool → Edit → OptionName
-followed s follow r = cond follow (link_in (entry_of s (name_in r)).loose) NoName
+abbrev pub followed : Store → Bool → Edit → Option NameNumber
+followed s follow r = cond follow (link_in (entry_of s (name_in r)).loose) None
 
-abbrev pub step_by : OptionName → ℕ → List Edit → List Edit
+abbrev pub step_by : Option NameNumber → ℕ → List Edit → List Edit
 step_by o i rows = set rows i (settled o (row_at rows i)) ++ map hide (child_of o i (row_at rows i))
 
 unfoldable pub stepped : Store → Bool → ℕ → List Edit → List Edit
@@ -34,9 +33,9 @@ steps s [] i rows = rows
 steps s (f ∷ fs) i rows = steps s fs (i + 1) (stepped s f i rows)
 
 -- a name was found
-abbrev pub is_there : OptionName → Bool
-is_there NoName = false
-is_there (Name n) = true
+abbrev pub is_there : Option NameNumber → Bool
+is_there None = false
+is_there (Some n) = true
 
 -- some row from place i on leads on to another name
 unfoldable pub leads_on : Store → ℕ → List Edit → Bool

@@ -1,7 +1,7 @@
 -- Names that stand twice among the rows, from a place on.
-use Rattle.std.specs.Prelude.{◌≡◌, Bool, List, map, ℕ, ◌+◌, drop}
+use Rattle.target.specs.declared.NameNumber.{NameNumber}
+use Rattle.std.specs.Prelude.{◌≡◌, Bool, List, map, ℕ, ◌+◌, drop, Option}
 use Rattle.word.specs.Flags.{Flags}
-use Rattle.target.specs.declared.OptionName.{OptionName}
 use Rattle.target.specs.Target.{same_name}
 use Rattle.transaction.specs.declared.Edit.{Edit}
 use Rattle.model.specs.Basic.{any}
@@ -19,5 +19,5 @@ pub record Repeats (rows : List Edit) (i : ℕ) (again : Bool) (flags : List Boo
   pub up : Flags (behind rows i) flags
 
 -- the least of those that stand twice from place i on
-unfoldable pub least_from : Store → List Edit → ℕ → OptionName
+unfoldable pub least_from : Store → List Edit → ℕ → Option NameNumber
 least_from s rows i = least s (repeated (map name_in (drop i rows)))

@@ -20,44 +20,41 @@ ghost use Rattle.edits.specs.Edits.{edits_in, Registered};
 ghost use Rattle.splits.specs.Twice.{behind, Repeats, least_from};
 ghost use Rattle.splits.specs.Round.{hide, hidden_rows, followed, stepped, steps, leads_on};
 
-use model::{Judged, Loose, Refusal};
-use target::{NameNumber, ObjectNumber, OptionName};
-use transaction::{Change, Edit, LogChange, ParentIndex, PreviousValue, RefEdit, RefLog};
+use model::{Loose, Refusal};
+use target::{NameNumber, ObjectNumber};
+use transaction::{Change, Edit, LogChange, PreviousValue, RefEdit, RefLog};
 
 // ---- one row
 
 // R1: broken, absent or an object means no split.
-fn link_in(loose: Loose) -> OptionName
+fn link_in(loose: Loose) -> Option<NameNumber>
     ensures { result ≡ link_in loose }
 {
     match loose {
-        Loose::None => OptionName::NoName,
         Loose::Target(t) => t.try_name(),
-        Loose::Broken => OptionName::NoName,
+        Loose::None | Loose::Broken => None,
     }
 }
 
 // The name that a name links to, looked up in the loose value of exactly that name; a number that is not registered links nowhere.
-fn link_of(region: &[u8], name: NameNumber) -> OptionName
+fn link_of(region: &[u8], name: NameNumber) -> Option<NameNumber>
     requires { Laid region.now }
     ensures { result ≡ link_in (entry_of (view region.now) name).loose }
 {
     if name.place() >= region::count_names(region) {
-        return OptionName::NoName;
+        return None;
     }
     link_in(region::loose_at(region, name))
 }
 
-fn follow_row(region: &[u8], row: Edit, follow: bool) -> OptionName
+fn follow_row(region: &[u8], row: Edit, follow: bool) -> Option<NameNumber>
     requires { Laid region.now }
     ensures { result ≡ followed (view region.now) follow row }
 {
     if !follow {
-        return OptionName::NoName;
+        return None;
     }
-    let update = row.update;
-    let name = update.name;
-    link_of(region, name)
+    link_of(region, row.update.name)
 }
 
 // R1: the parent becomes log-only, and an update's expected value moves to the child.
@@ -72,17 +69,16 @@ fn parent_change(change: Change) -> Change
         } => {
             let kept = LogChange {
                 mode: RefLog::Only,
-                force_create_reflog: log.force_create_reflog,
-                message: log.message,
+                ..log
             };
             Change::Update {
                 log: kept,
                 expected: PreviousValue::Any,
-                new: new,
+                new,
             }
         }
         Change::Delete { expected, log: _ } => Change::Delete {
-            expected: expected,
+            expected,
             log: RefLog::Only,
         },
     }
@@ -92,37 +88,29 @@ fn parent_change(change: Change) -> Change
 fn settled_with(change: Change, row: Edit) -> Edit
     ensures { result ≡ settled_with change row }
 {
-    let update = row.update;
-    let name = update.name;
-    let parent = row.parent_index;
-    let leaf = row.leaf_referent_previous_oid;
     Edit {
-        update: RefEdit::new(change, name, false),
-        parent_index: parent,
-        leaf_referent_previous_oid: leaf,
+        update: RefEdit::new(change, row.update.name, false),
+        ..row
     }
 }
 
-fn settle(to: OptionName, row: Edit) -> Edit
+fn settle(to: Option<NameNumber>, row: Edit) -> Edit
     ensures { result ≡ settled to row }
 {
-    let update = row.update;
-    let change = update.change;
-    let OptionName::Name(_) = to else {
-        return settled_with(change, row);
-    };
-    settled_with(parent_change(change), row)
+    let change = row.update.change;
+    match to {
+        None => settled_with(change, row),
+        Some(_) => settled_with(parent_change(change), row),
+    }
 }
 
 // R1: the child has the parent's change, on the name that the link names.
 fn child(to: NameNumber, i: usize, row: Edit) -> Edit
-    ensures { (result ∷ []) ≡ map hide (child_of (OptionName.Name to) i row) }
+    ensures { (result ∷ []) ≡ map hide (child_of (Some to) i row) }
 {
-    let update = row.update;
-    let change = update.change;
     Edit {
-        update: RefEdit::new(change, to, false),
-        parent_index: ParentIndex::Parent(i),
+        update: RefEdit::new(row.update.change, to, false),
+        parent_index: Some(i),
         leaf_referent_previous_oid: ObjectNumber::null(),
     }
 }
@@ -139,7 +127,7 @@ fn split_row(region: &mut [u8], i: usize, follow: bool)
     let to = follow_row(region, row, follow);
     let kept = settle(to, row);
     writers::put_row_at(region, i, kept);
-    let OptionName::Name(name) = to else {
+    let Some(name) = to else {
         return;
     };
     writers::add_row(region, child(name, i, row));
@@ -156,13 +144,10 @@ pub fn add_edits(region: &mut [u8], list: &[u8])
     ensures { Became region.new (with_rows (view region.old) (hidden_rows (edits_in list.now))) }
 {
     let count = edits::count_edits(list);
-    let mut i: usize = 0;
-    while i < count {
+    for i in 0..count {
         let edit = edits::edit_at(list, i);
-        let change = edit.change;
-        let name = edit.name;
-        writers::add_row(region, Edit::new(RefEdit::new(change, name, false)));
-        i += 1;
+        let update = RefEdit::new(edit.change, edit.name, false);
+        writers::add_row(region, Edit::new(update));
     }
 }
 
@@ -175,10 +160,8 @@ fn split_first(region: &mut [u8], list: &[u8])
     ensures { Became region.new (with_rows (view region.old) (steps (view region.old) (map (λ (e : AnEdit). e.deref) (edits_in list.now)) 0 (rows_in (view region.old).prepared))) }
 {
     let end = edits::count_edits(list);
-    let mut i: usize = 0;
-    while i < end {
+    for i in 0..end {
         split_row(region, i, edits::is_followed(list, i));
-        i += 1;
     }
 }
 
@@ -191,10 +174,8 @@ fn split_round(region: &mut [u8], first: usize)
     ensures { Became region.new (with_rows (view region.old) (steps (view region.old) (replicate (length (rows_in (view region.old).prepared) - first) true) first (rows_in (view region.old).prepared))) }
 {
     let end = region::count_rows(region);
-    let mut i = first;
-    while i < end {
+    for i in first..end {
         split_row(region, i, true);
-        i += 1;
     }
 }
 
@@ -204,12 +185,9 @@ fn leads_on(region: &[u8], first: usize) -> bool
     ensures { result ≡ leads_on (view region.now) first (rows_in (view region.now).prepared) }
 {
     let end = region::count_rows(region);
-    let mut i = first;
-    while i < end {
-        let to = follow_row(region, region::row_at(region, i), true);
-        match to {
-            OptionName::NoName => i += 1,
-            OptionName::Name(_) => return true,
+    for i in first..end {
+        if follow_row(region, region::row_at(region, i), true).is_some() {
+            return true;
         }
     }
     false
@@ -217,7 +195,7 @@ fn leads_on(region: &[u8], first: usize) -> bool
 
 // R1, on the rows of the edits: five rounds, of which the last may yield no child (4). There is always room (5): a list has at most
 // 32 edits, and each gives at most one child a round.
-pub fn extend_with_splits_of_symbolic_refs(region: &mut [u8], list: &[u8]) -> Judged
+pub fn extend_with_splits_of_symbolic_refs(region: &mut [u8], list: &[u8]) -> Result<(), Refusal>
     requires laid { Laid region.old }
     requires region_value { is_prepared (view region.old).prepared ≡ true }
     requires list_value { is_some (edits_of list.now) ≡ true }
@@ -226,20 +204,18 @@ pub fn extend_with_splits_of_symbolic_refs(region: &mut [u8], list: &[u8]) -> Ju
 {
     let mut first = region::count_rows(region);
     split_first(region, list);
-    let mut left: usize = 3;
-    while 0 < left {
+    for _ in 0..3usize {
         let end = region::count_rows(region);
         if end + (end - first) > Edit::LIMIT {
-            return Judged::Refused(Refusal::TooManyRows);
+            return Err(Refusal::TooManyRows);
         }
         split_round(region, first);
         first = end;
-        left -= 1;
     }
     if leads_on(region, first) {
-        return Judged::Refused(Refusal::ReferenceCycle);
+        return Err(Refusal::ReferenceCycle);
     }
-    Judged::Passed
+    Ok(())
 }
 
 // ---- 6: two rows, one name
@@ -256,17 +232,17 @@ fn bytes_of(region: &[u8], name: NameNumber) -> &[u8]
 }
 
 // The least in byte order.
-fn lesser_of(region: &[u8], name: NameNumber, other: OptionName) -> OptionName
+fn lesser_of(region: &[u8], name: NameNumber, other: Option<NameNumber>) -> Option<NameNumber>
     requires { Laid region.now }
     ensures { result ≡ lesser (view region.now) name other }
 {
-    let OptionName::Name(m) = other else {
-        return OptionName::Name(name);
+    let Some(m) = other else {
+        return Some(name);
     };
     if names::spelling::is_before(bytes_of(region, name), bytes_of(region, m)) {
-        return OptionName::Name(name);
+        return Some(name);
     }
-    OptionName::Name(m)
+    Some(m)
 }
 
 // Whether a row from place i on has the name.
@@ -275,13 +251,9 @@ fn stands_again(region: &[u8], name: NameNumber, i: usize) -> bool
     ensures { result ≡ any (same_name name) (map name_in (drop i (rows_in (view region.now).prepared))) }
 {
     let rows = region::count_rows(region);
-    let mut j = i;
-    while j < rows {
-        let same = name.eq(region::row_name(region, j));
-        if same {
+    for j in i..rows {
+        if name == region::row_name(region, j) {
             return true;
-        } else {
-            j += 1;
         }
     }
     false
@@ -314,17 +286,15 @@ fn repeats(region: &[u8], flags: &mut [bool], i: usize) -> bool
 }
 
 // The least name in byte order that stands twice. Rows are looked at from the last on, as the least is defined.
-fn least_repeated(region: &[u8], flags: &mut [bool]) -> OptionName
+fn least_repeated(region: &[u8], flags: &mut [bool]) -> Option<NameNumber>
     requires laid { Laid region.now }
     requires flags { Flags nowhere flags.old }
     ensures { result ≡ least_from (view region.now) (rows_in (view region.now).prepared) 0 }
 {
-    let mut least = OptionName::NoName;
-    let mut i = region::count_rows(region);
-    while 0 < i {
-        i -= 1;
-        let again = repeats(region, flags, i);
-        if again {
+    let mut least = None;
+    let rows = region::count_rows(region);
+    for i in (0..rows).rev() {
+        if repeats(region, flags, i) {
             least = lesser_of(region, region::row_name(region, i), least);
         }
     }
@@ -332,14 +302,13 @@ fn least_repeated(region: &[u8], flags: &mut [bool]) -> OptionName
 }
 
 // 6, with that name.
-pub fn assure_one_name_has_one_edit(region: &[u8]) -> Judged
+pub fn assure_one_name_has_one_edit(region: &[u8]) -> Result<(), Refusal>
     requires { Laid region.now }
     ensures { outcome_by result tt ≡ one_name_one_edit (view region.now) (rows_in (view region.now).prepared) }
 {
     let mut flags = [false; NameNumber::LIMIT];
-    let least = least_repeated(region, &mut flags);
-    let OptionName::Name(name) = least else {
-        return Judged::Passed;
-    };
-    Judged::Refused(Refusal::MultipleEdits(name))
+    match least_repeated(region, &mut flags) {
+        None => Ok(()),
+        Some(name) => Err(Refusal::MultipleEdits(name)),
+    }
 }

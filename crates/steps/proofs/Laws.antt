@@ -1,8 +1,8 @@
 -- What the proofs below the calls cite, over variables: numbers told apart, and the turns and ends of the loops. Assumes nothing.
+use Rattle.std.specs.Prelude.{Option, Some, None}
 use mathlib.Core.Path.{◌≡◌, refl, sym, ap, ap₂, ◌∙◌}
 use mathlib.Core.Bool.{Bool, true, false, not, ◌&&◌, cond, true≢false, false≢true}
 use mathlib.Core.List.{List, [], ◌∷◌, map}
-use mathlib.Core.Option.{Option, none, some}
 use Prim.Native.Nat.{ℕ, zero, suc, ◌+◌, ◌-◌, ◌<◌, ◌≤◌, ◌^◌}
 use native.Mathlib.Numerals.{add-one}
 use native.Mathlib.Omega.{arith}
@@ -14,20 +14,15 @@ use mir.Val.{Fits}
 use mir.Syntax.{w64}
 use Rattle.target.specs.declared.NameNumber.{NameNumber}
 use Rattle.target.specs.declared.ObjectNumber.{ObjectNumber}
-use Rattle.target.specs.declared.OptionObject.{OptionObject}
-use Rattle.target.specs.declared.OptionObject.TheVariants.{NoId, Id}
 use Rattle.target.specs.declared.Target.{Target}
-use Rattle.target.specs.declared.OptionTarget.{OptionTarget}
 use Rattle.target.specs.declared.Found.{Found}
 use Rattle.target.specs.declared.Found.TheVariants as found
 use Rattle.target.specs.Found.{value_in}
 use Rattle.target.specs.Fields.{object_of}
 use Rattle.model.specs.declared.Loose.{Loose}
 use Rattle.model.specs.declared.Loose.TheVariants as loose
-use Rattle.model.specs.declared.Packed.{Packed}
 use Rattle.model.specs.Read.{packed_seen, found_in, found_of, value_of}
 use Rattle.model.specs.declared.Lock.{Lock}
-use Rattle.model.specs.declared.Packed.TheVariants as packed
 use Rattle.model.specs.declared.Line.{Line}
 use Rattle.model.specs.Basic.{select}
 use Rattle.model.specs.Names.{same_bytes}
@@ -52,13 +47,13 @@ module _ (name : List ℕ) (xs : List Entry) (i n : ℕ) (z : Option ℕ) (h : n
     same_here : same_bytes name (get_or xs i no_entry).name ≡ r
     same_here = ap (λ (a : NameNumber). same_bytes name (get_or xs a.0 no_entry).name) (sym ea) ∙ ap (same_bytes name) (sym eb) ∙ sym er
 
-    pub number_here : r ≡ true → some at.0 ≡ z
-    number_here t = ap (λ (a : NameNumber). some a.0) ea ∙ (rw (next xs no_entry i n e l, same_here ∙ t) at h)
+    pub number_here : r ≡ true → Some at.0 ≡ z
+    number_here t = ap (λ (a : NameNumber). Some a.0) ea ∙ (rw (next xs no_entry i n e l, same_here ∙ t) at h)
 
     pub number_more : r ≡ false → number_from (i + 1) name (drop (i + 1) xs) ≡ z
     number_more t = rw (next xs no_entry i n e l, same_here ∙ t) at h
 
-  pub number_end : n ≤ i → none ≡ z
+  pub number_end : n ≤ i → None ≡ z
   number_end l =
       let b : length xs ≤ i = rw e at l in
       rw (drop_of_length-le xs b) at h
@@ -73,36 +68,36 @@ is_id_lem x f h =
     rw (lt-ltb 0 x q, lt-ltb x (2 ^ 64) p)
 
 module _ (b : Bool) (k x : ℕ) where
-  pub packed_beside_none : k ≡ 0 → (x ≡ 0 → ⊥) → none ≡ packed_by b k x
+  pub packed_beside_none : k ≡ 0 → (x ≡ 0 → ⊥) → None ≡ packed_by b k x
   packed_beside_none e h = rw (e, ne_eqb x 0 h)
 
-  pub packed_none : k ≡ 0 → x ≡ 0 → some packed.None ≡ packed_by b k x
+  pub packed_none : k ≡ 0 → x ≡ 0 → Some None ≡ packed_by b k x
   packed_none e h = rw (e, h)
 
   -- o is the object of the number, unless that is the null id
-  module _ (o : OptionObject) (eo : o ≡ object_of x) (f : Fits w64 x) where
-    pub packed_null : k ≡ 1 → o ≡ NoId → none ≡ packed_by b k x
+  module _ (o : Option ObjectNumber) (eo : o ≡ object_of x) (f : Fits w64 x) where
+    pub packed_null : k ≡ 1 → o ≡ None → None ≡ packed_by b k x
     packed_null e h = go (eqb x 0) refl
       where
-        go : (t : Bool) → eqb x 0 ≡ t → none ≡ packed_by b k x
+        go : (t : Bool) → eqb x 0 ≡ t → None ≡ packed_by b k x
         go true p = rw (e, eqb-true x 0 p)
-        go false p = absurd (let q : o ≡ Id (record { 0 = x }) = rw p at eo in let z : ◌≡◌ {A = ℕ} 0 1 = cc in omega arith)
+        go false p = absurd (let q : o ≡ Some (record { 0 = x }) = rw p at eo in let z : ◌≡◌ {A = ℕ} 0 1 = cc in omega arith)
 
     -- an object that is there has that number, and it is not 0
-    there : (i : ObjectNumber) → o ≡ Id i → (i ≡ record { 0 = x }) × (is_id x ≡ true)
+    there : (i : ObjectNumber) → o ≡ Some i → (i ≡ record { 0 = x }) × (is_id x ≡ true)
     there i h = go (eqb x 0) refl
       where
         go : (t : Bool) → eqb x 0 ≡ t → (i ≡ record { 0 = x }) × (is_id x ≡ true)
-        go true p = absurd (let q : o ≡ NoId = rw p at eo in let z : ◌≡◌ {A = ℕ} 0 1 = cc in omega arith)
-        go false p = let q : o ≡ Id (record { 0 = x }) = rw p at eo in (cc, is_id_lem x f (eqb-false x 0 p))
+        go true p = absurd (let q : o ≡ None = rw p at eo in let z : ◌≡◌ {A = ℕ} 0 1 = cc in omega arith)
+        go false p = let q : o ≡ Some (record { 0 = x }) = rw p at eo in (cc, is_id_lem x f (eqb-false x 0 p))
 
-    pub packed_unpackable : (i : ObjectNumber) → k ≡ 1 → o ≡ Id i → not b ≡ true → none ≡ packed_by b k x
+    pub packed_unpackable : (i : ObjectNumber) → k ≡ 1 → o ≡ Some i → not b ≡ true → None ≡ packed_by b k x
     packed_unpackable i e h t = rw (e, (there i h).1, not-true b t)
 
-    pub packed_object : (i : ObjectNumber) → k ≡ 1 → o ≡ Id i → not b ≡ false → some (packed.Object i) ≡ packed_by b k x
+    pub packed_object : (i : ObjectNumber) → k ≡ 1 → o ≡ Some i → not b ≡ false → Some (Some i) ≡ packed_by b k x
     packed_object i e h t = rw (e, (there i h).0, (there i h).1, not-false b t)
 
-pub packed_other : (b : Bool) (k x : ℕ) → (k ≡ 0 → ⊥) → (k ≡ 1 → ⊥) → none ≡ packed_by b k x
+pub packed_other : (b : Bool) (k x : ℕ) → (k ≡ 0 → ⊥) → (k ≡ 1 → ⊥) → None ≡ packed_by b k x
 packed_other b zero x p q = absurd (p refl)
 packed_other b (suc zero) x p q = absurd (q refl)
 packed_other b (suc (suc k)) x p q = refl
@@ -163,7 +158,7 @@ freed_are zero s = refl
 freed_are (suc k) s = ap (change_entry free k) (freed_are k s)
 
 pub released_is : (r₀ r₁ r₂ r₃ : List ℕ) (a l : Lock) → Became r₁ (free_names (count (view r₀)) (view r₀)) → a ≡ (view r₁).packed_lock → l ≡ freed a
-    → Became r₂ (with_packed_lock (view r₁) l) → Became r₃ (with_prepared (view r₂) none) → Became r₃ (released (view r₀))
+    → Became r₂ (with_packed_lock (view r₁) l) → Became r₃ (with_prepared (view r₂) None) → Became r₃ (released (view r₀))
 unfolding released
 released_is r₀ r₁ r₂ r₃ a l h₁ ea el h₂ h₃ =
     let s : Store = view r₀ in
@@ -173,26 +168,26 @@ released_is r₀ r₁ r₂ r₃ a l h₁ ea el h₂ h₃ =
       laid = h₃.laid;
       seen =
           h₃.seen
-          ∙ ap (λ (t : Store). with_prepared t none) (h₂.seen ∙ ap (with_packed_lock (view r₁)) (el ∙ ap freed ea))
-          ∙ ap (λ (t : Store). with_prepared (with_packed_lock t (freed t.packed_lock)) none) e₁;
+          ∙ ap (λ (t : Store). with_prepared t None) (h₂.seen ∙ ap (with_packed_lock (view r₁)) (el ∙ ap freed ea))
+          ∙ ap (λ (t : Store). with_prepared (with_packed_lock t (freed t.packed_lock)) None) e₁;
     }
 
 -- ---- what a name reads
 
-pub unseen_is : (seen : Bool) (p : Packed) → not seen ≡ true → packed.None ≡ packed_seen seen p
+pub unseen_is : (seen : Bool) (p : Option ObjectNumber) → not seen ≡ true → None ≡ packed_seen seen p
 unseen_is seen p t = rw (not-true seen t)
 
-pub seen_is : (seen : Bool) (p : Packed) → not seen ≡ false → p ≡ packed_seen seen p
+pub seen_is : (seen : Bool) (p : Option ObjectNumber) → not seen ≡ false → p ≡ packed_seen seen p
 seen_is seen p t = rw (not-false seen t)
 
-module _ (l : Loose) (p : Packed) where
+module _ (l : Loose) (p : Option ObjectNumber) where
   pub in_loose : (t : Target) → l ≡ loose.Target t → found.Loose t ≡ found_in l p
   in_loose t e = rw e
 
-  pub in_packed : (o : ObjectNumber) → l ≡ loose.None → p ≡ packed.Object o → found.Packed o ≡ found_in l p
+  pub in_packed : (o : ObjectNumber) → l ≡ loose.None → p ≡ Some o → found.Packed o ≡ found_in l p
   in_packed o e f = rw (e, f)
 
-  pub in_behind : (o : ObjectNumber) → l ≡ loose.Broken → p ≡ packed.Object o → found.PackedBehindBroken o ≡ found_in l p
+  pub in_behind : (o : ObjectNumber) → l ≡ loose.Broken → p ≡ Some o → found.PackedBehindBroken o ≡ found_in l p
   in_behind o e f = rw (e, f)
 
 none_found : (seen : Bool) → found_of seen no_entry ≡ found.Absent
@@ -205,16 +200,16 @@ module _ (s : Store) (seen : Bool) (name : NameNumber) where
       let b : count s ≤ name.0 = omega arith in
       sym (ap (found_of seen) (get_or-eq_default s.entries no_entry b) ∙ none_found seen)
 
-  pub found_at : (p q : Packed) (l : Loose) (r : Found) → p ≡ (entry_of s name).packed → q ≡ packed_seen seen p → l ≡ (entry_of s name).loose
+  pub found_at : (p q : Option ObjectNumber) (l : Loose) (r : Found) → p ≡ (entry_of s name).packed → q ≡ packed_seen seen p → l ≡ (entry_of s name).loose
       → r ≡ found_in l q → r ≡ found_of seen (entry_of s name)
   found_at p q l r ep eq el er = er ∙ ap₂ found_in el (eq ∙ ap (packed_seen seen) ep)
 
-  pub value_is : (x : Found) (v : OptionTarget) → x ≡ found_of seen (entry_of s name) → v ≡ value_in x → v ≡ value_of seen (entry_of s name)
+  pub value_is : (x : Found) (v : Option Target) → x ≡ found_of seen (entry_of s name) → v ≡ value_in x → v ≡ value_of seen (entry_of s name)
   value_is x v ex ev = ev ∙ ap value_in ex
 
 -- ---- the line of a name at a place
 
-one_here : (r : Bool) (left : ℕ) (x : Line) (ls : List Line) (z : Option Line) → line_among left (cond r (x ∷ ls) ls) ≡ z → (r && eqb left 0) ≡ true → some x ≡ z
+one_here : (r : Bool) (left : ℕ) (x : Line) (ls : List Line) (z : Option Line) → line_among left (cond r (x ∷ ls) ls) ≡ z → (r && eqb left 0) ≡ true → Some x ≡ z
 one_here true zero x ls z h t = let q : 0 < suc (length ls) = omega arith in rw (lt-ltb 0 (suc (length ls)) q) at h
 one_here true (suc k) x ls z h t = absurd (false≢true (sym (eqb-suc-zero k) ∙ t))
 one_here false left x ls z h t = absurd (false≢true t)
@@ -238,13 +233,13 @@ module _ (p : Line → Bool) (xs : List Line) (i n left : ℕ) (z : Option Line)
         let f : p (get_or xs i no_line) ≡ r = ap p (sym ex) ∙ sym er in
         rw (next xs no_line i n e l, f) at h
 
-    pub line_here : here ≡ true → some x ≡ z
-    line_here t = ap some ex ∙ one_here r left _ _ z passed (sym eh ∙ t)
+    pub line_here : here ≡ true → Some x ≡ z
+    line_here t = ap Some ex ∙ one_here r left _ _ z passed (sym eh ∙ t)
 
     pub line_more : here ≡ false → (left' : ℕ) → left' ≡ left_after r left → line_among left' (select p (drop (i + 1) xs)) ≡ z
     line_more t left' el = rw el (one_more r left _ _ z passed (sym eh ∙ t))
 
-  pub line_end : n ≤ i → none ≡ z
+  pub line_end : n ≤ i → None ≡ z
   line_end l =
       let b : length xs ≤ i = rw e at l in
       let q : 0 ≤ left = omega arith in

@@ -7,62 +7,41 @@ ghost use Rattle.model.specs.Read.{packed_seen, found_in, found_of, value_of};
 ghost use Rattle.model.specs.Commit.{freed, released};
 ghost use Rattle.model.specs.Load.{number_from};
 ghost use Rattle.region.specs.Region.{view, Laid, Became};
-ghost use Rattle.steps.specs.Steps.{found_option, packed_by, packed_option, free_names};
-ghost use Rattle.steps.specs.Steps.{line_option, line_among, left_after};
+ghost use Rattle.steps.specs.Steps.{found_option, packed_by, free_names};
+ghost use Rattle.steps.specs.Steps.{line_among, left_after};
 
-use model::{Lock, Loose, OptionLine, Packed};
-use target::{Found, NameNumber, ObjectNumber, OptionName, OptionObject, OptionTarget};
+use model::{Line, Lock, Loose};
+use target::{Found, NameNumber, ObjectNumber, Target};
 
 // ---- names
 
 // The number of the name with these bytes.
-pub fn find_name(region: &[u8], name: &[u8]) -> OptionName
+pub fn find_name(region: &[u8], name: &[u8]) -> Option<NameNumber>
     requires { Laid region.now }
     ensures { found_option result ≡ number_from 0 name.now (view region.now).entries }
 {
-    let count = region::count_names(region);
-    let mut n: usize = 0;
-    while n < count {
+    for n in 0..region::count_names(region) {
         let at = NameNumber::at(n);
-        let same = word::same(name, region::name_at(region, at));
-        if same {
-            return OptionName::Name(at);
-        } else {
-            n += 1;
+        if word::same(name, region::name_at(region, at)) {
+            return Some(at);
         }
     }
-    OptionName::NoName
+    None
 }
 
 // ---- loads
 
 // A packed value of a kind and a number, on a name that is packable or not.
-#[derive(Clone, Copy)]
-pub enum OptionPacked {
-    NoPacked,
-    Packed(Packed),
-}
-
-pub fn packed_of(packable: bool, kind: u64, number: u64) -> OptionPacked
-    ensures { packed_option result ≡ packed_by packable kind number }
+pub fn packed_of(packable: bool, kind: u64, number: u64) -> Option<Option<ObjectNumber>>
+    ensures { result ≡ packed_by packable kind number }
 {
     match kind {
-        OptionTarget::NONE => {
-            if number != 0 {
-                return OptionPacked::NoPacked;
-            }
-            OptionPacked::Packed(Packed::None)
+        Target::NONE => { if number == 0 { Some(None) } else { None } }
+        Target::OBJECT => {
+            let oid = ObjectNumber::new(number)?;
+            if packable { Some(Some(oid)) } else { None }
         }
-        OptionTarget::OBJECT => {
-            let OptionObject::Id(oid) = ObjectNumber::new(number) else {
-                return OptionPacked::NoPacked;
-            };
-            if !packable {
-                return OptionPacked::NoPacked;
-            }
-            OptionPacked::Packed(Packed::Object(oid))
-        }
-        _ => OptionPacked::NoPacked,
+        _ => None,
     }
 }
 
@@ -84,12 +63,10 @@ pub fn free_names(region: &mut [u8])
     ensures { Became region.new (free_names (count (view region.old)) (view region.old)) }
 {
     let count = region::count_names(region);
-    let mut n: usize = 0;
-    while n < count {
+    for n in 0..count {
         let at = NameNumber::at(n);
         let lock = freed_lock(region::lock_at(region, at));
         writers::put_lock_at(region, at, lock);
-        n += 1;
     }
 }
 
@@ -107,28 +84,25 @@ pub fn release(region: &mut [u8])
 // ---- reads
 
 // The packed value, where the packed table is seen.
-fn packed_seen(seen: bool, packed: Packed) -> Packed
+fn packed_seen(seen: bool, packed: Option<ObjectNumber>) -> Option<ObjectNumber>
     ensures { result ≡ packed_seen seen packed }
 {
-    if !seen {
-        return Packed::None;
-    }
-    packed
+    if seen { packed } else { None }
 }
 
 // A loose target; if that is none or broken, the packed value.
-fn found_in(loose: Loose, packed: Packed) -> Found
+fn found_in(loose: Loose, packed: Option<ObjectNumber>) -> Found
     ensures { result ≡ found_in loose packed }
 {
     match loose {
         Loose::Target(t) => Found::Loose(t),
         Loose::None => match packed {
-            Packed::Object(oid) => Found::Packed(oid),
-            Packed::None => Found::Absent,
+            Some(oid) => Found::Packed(oid),
+            None => Found::Absent,
         },
         Loose::Broken => match packed {
-            Packed::Object(oid) => Found::PackedBehindBroken(oid),
-            Packed::None => Found::AbsentBehindBroken,
+            Some(oid) => Found::PackedBehindBroken(oid),
+            None => Found::AbsentBehindBroken,
         },
     }
 }
@@ -146,56 +120,40 @@ pub fn found_of(region: &[u8], seen: bool, name: NameNumber) -> Found
 }
 
 // The value part.
-pub fn value_of(region: &[u8], seen: bool, name: NameNumber) -> OptionTarget
+pub fn value_of(region: &[u8], seen: bool, name: NameNumber) -> Option<Target>
     requires { Laid region.now }
     ensures { result ≡ value_of seen (entry_of (view region.now) name) }
 {
-    let found = found_of(region, seen, name);
-    found.value()
+    found_of(region, seen, name).value()
 }
 
 // Whether a line is the one: it is the name's, and no other is to be passed before.
 fn is_here(same: bool, left: u64) -> bool
     ensures { result ≡ (same && eqb left 0) }
 {
-    if same {
-        return left == 0;
-    }
-    false
+    same && left == 0
 }
 
 // How many of the name's lines are to be passed after this one.
 fn left_after(same: bool, left: u64) -> u64
     ensures { result ≡ left_after same left }
 {
-    if !same {
-        return left;
-    }
-    if left == 0 {
-        return 0;
-    }
-    left - 1
+    if same { left.saturating_sub(1) } else { left }
 }
 
 // The line of a name at a place among its lines.
-pub fn find_line(region: &[u8], name: NameNumber, place: u64) -> OptionLine
+pub fn find_line(region: &[u8], name: NameNumber, place: u64) -> Option<Line>
     requires { Laid region.now }
-    ensures { line_option result ≡ line_among place (lines_of (view region.now) name) }
+    ensures { result ≡ line_among place (lines_of (view region.now) name) }
 {
-    let lines = region::count_lines(region);
     let mut left = place;
-    let mut i: usize = 0;
-    while i < lines {
+    for i in 0..region::count_lines(region) {
         let line = region::line_at(region, i);
-        let of = line.name;
-        let same = of.eq(name);
-        let here = is_here(same, left);
-        if here {
-            return OptionLine::Line(line);
-        } else {
-            left = left_after(same, left);
-            i += 1;
+        let same = line.name == name;
+        if is_here(same, left) {
+            return Some(line);
         }
+        left = left_after(same, left);
     }
-    OptionLine::NoLine
+    None
 }

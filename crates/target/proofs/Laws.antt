@@ -1,5 +1,6 @@
 -- What a target's id says of it, and that the tests for equality mean equality: `..-true`, that the test holds of equals only, `..-refl`, that it holds of each with itself, and `..-false`, that what it tells apart differs.
 -- Assumes nothing.
+use Rattle.std.specs.Prelude.{Option, Some, None}
 use Prim.Native.Nat.{ℕ}
 use mathlib.Core.Path.{◌≡◌, refl, sym, ap, ◌∙◌}
 use mathlib.Core.Bool.{Bool, true, false, true≢false, false≢true}
@@ -8,20 +9,16 @@ use lib.Dec.{eqb}
 use borrow.Author.Tests.{eqb-true, eq-eqb}
 use Rattle.target.specs.declared.NameNumber.{NameNumber}
 use Rattle.target.specs.declared.ObjectNumber.{ObjectNumber}
-use Rattle.target.specs.declared.OptionObject.{OptionObject}
-use Rattle.target.specs.declared.OptionObject.TheVariants.{NoId, Id}
 use Rattle.target.specs.declared.Target.{Target}
 use Rattle.target.specs.declared.Target.TheVariants.{Object, Symbolic}
-use Rattle.target.specs.declared.OptionTarget.{OptionTarget}
-use Rattle.target.specs.declared.OptionTarget.TheVariants.{Absent, Present}
 use Rattle.target.specs.Target.{try_id, is_null, same, same_name, same_object, same_option, is_object, is_symbolic}
 use Rattle.target.specs.Fields.{target_byte}
 
-pub no_id_not_null : (t : Target) (r : OptionObject) → r ≡ try_id t → r ≡ NoId → false ≡ is_null t
+pub no_id_not_null : (t : Target) (r : Option ObjectNumber) → r ≡ try_id t → r ≡ None → false ≡ is_null t
 no_id_not_null (Object o) r p q = absurd (let z : ◌≡◌ {A = ℕ} 0 1 = cc in omega arith)
 no_id_not_null (Symbolic n) r p q = refl
 
-pub id_null : (t : Target) (r : OptionObject) (o : ObjectNumber) → r ≡ try_id t → r ≡ Id o → eqb o.0 0 ≡ is_null t
+pub id_null : (t : Target) (r : Option ObjectNumber) (o : ObjectNumber) → r ≡ try_id t → r ≡ Some o → eqb o.0 0 ≡ is_null t
 id_null (Object u) r o p q = let e : o ≡ u = cc in ap (λ (x : ObjectNumber). eqb x.0 0) e
 id_null (Symbolic n) r o p q = absurd (let z : ◌≡◌ {A = ℕ} 0 1 = cc in omega arith)
 
@@ -60,27 +57,27 @@ same_refl (Symbolic a) = name_refl a
 pub same_false : (a b : Target) → same a b ≡ false → a ≡ b → ⊥
 same_false = apart same same_refl
 
-pub option_true : (a b : OptionTarget) → same_option a b ≡ true → a ≡ b
-option_true Absent Absent h = refl
-option_true Absent (Present b) h = absurd (false≢true h)
-option_true (Present a) Absent h = absurd (false≢true h)
-option_true (Present a) (Present b) h = ap Present (same_true a b h)
+pub option_true : (a b : Option Target) → same_option a b ≡ true → a ≡ b
+option_true None None h = refl
+option_true None (Some b) h = absurd (false≢true h)
+option_true (Some a) None h = absurd (false≢true h)
+option_true (Some a) (Some b) h = ap Some (same_true a b h)
 
-pub option_refl : (a : OptionTarget) → same_option a a ≡ true
-option_refl Absent = refl
-option_refl (Present a) = same_refl a
+pub option_refl : (a : Option Target) → same_option a a ≡ true
+option_refl None = refl
+option_refl (Some a) = same_refl a
 
-pub option_false : (a b : OptionTarget) → same_option a b ≡ false → a ≡ b → ⊥
+pub option_false : (a b : Option Target) → same_option a b ≡ false → a ≡ b → ⊥
 option_false = apart same_option option_refl
 
 -- ---- a kind byte tells an object and a link
 
-pub object_is : (t : OptionTarget) (b : ℕ) → b ≡ target_byte t → eqb b 1 ≡ is_object t
-object_is Absent b e = rw e
-object_is (Present (Object o)) b e = rw e
-object_is (Present (Symbolic n)) b e = rw e
+pub object_is : (t : Option Target) (b : ℕ) → b ≡ target_byte t → eqb b 1 ≡ is_object t
+object_is None b e = rw e
+object_is (Some (Object o)) b e = rw e
+object_is (Some (Symbolic n)) b e = rw e
 
-pub symbolic_is : (t : OptionTarget) (b : ℕ) → b ≡ target_byte t → eqb b 2 ≡ is_symbolic t
-symbolic_is Absent b e = rw e
-symbolic_is (Present (Object o)) b e = rw e
-symbolic_is (Present (Symbolic n)) b e = rw e
+pub symbolic_is : (t : Option Target) (b : ℕ) → b ≡ target_byte t → eqb b 2 ≡ is_symbolic t
+symbolic_is None b e = rw e
+symbolic_is (Some (Object o)) b e = rw e
+symbolic_is (Some (Symbolic n)) b e = rw e

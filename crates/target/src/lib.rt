@@ -1,25 +1,17 @@
 // Targets: what a name points to. The port of gix-ref's src/target.rs, by value.
 //
 // An object number stands for the Rust's ObjectId, a name number for its FullName. The planner has confused the two
-// counts before, so each is a type of its own. Option<T> becomes an enum for each T.
+// counts before, so each is a type of its own.
 #![tactic(auto)]
 
 ghost use Rattle.std.specs.Prelude.{◌≡◌, ◌<◌, ◌≤◌};
-ghost use Rattle.target.specs.Target.{is_null, kind_of, try_id, try_name, same, same_name, same_object, same_option};
-ghost use Rattle.target.specs.Target.{is_object, is_symbolic};
+ghost use Rattle.target.specs.Target.{is_null, kind_of, try_id, try_name, is_object, is_symbolic};
 ghost use Rattle.target.specs.Fields.{name_below, object_of, target_byte, target_number, place_number};
 ghost use Rattle.target.specs.Found.{value_in};
 
 // The number of a registered name, from 0 in order of arrival.
-#[derive(Clone, Copy)]
+#[derive(Clone, Copy, PartialEq, Eq)]
 pub struct NameNumber(pub u16);
-
-// What may be missing where a name is looked for: a found symbolic link, or Target::try_name.
-#[derive(Clone, Copy)]
-pub enum OptionName {
-    NoName,
-    Name(NameNumber),
-}
 
 impl NameNumber {
     // 256 names, numbered from 0.
@@ -28,14 +20,14 @@ impl NameNumber {
     pub const LONGEST: usize = 64;
 
     // The name of a number, from all 64 bits that a caller passed, where so many names are registered.
-    pub fn new(number: u64, names: usize) -> OptionName
+    pub fn new(number: u64, names: usize) -> Option<NameNumber>
         requires { names ≤ 256 }
         ensures { result ≡ name_below names number }
     {
         if number < (names as u64) {
-            OptionName::Name(NameNumber(number as u16))
+            Some(NameNumber(number as u16))
         } else {
-            OptionName::NoName
+            None
         }
     }
 
@@ -52,36 +44,23 @@ impl NameNumber {
     {
         self.0 as usize
     }
-
-    pub fn eq(self, other: NameNumber) -> bool
-        ensures { result ≡ same_name self other }
-    {
-        self.0 == other.0
-    }
 }
 
 // The number of an object, 1 to 2^64-1. 0 is the null id and never a target.
-#[derive(Clone, Copy)]
+#[derive(Clone, Copy, PartialEq, Eq)]
 pub struct ObjectNumber(pub u64);
-
-// What may be missing where an object is looked for.
-#[derive(Clone, Copy)]
-pub enum OptionObject {
-    NoId,
-    Id(ObjectNumber),
-}
 
 impl ObjectNumber {
     pub const NULL: u64 = 0;
 
     // The object of a number, unless that is the null id.
-    pub fn new(number: u64) -> OptionObject
+    pub fn new(number: u64) -> Option<ObjectNumber>
         ensures { result ≡ object_of number }
     {
         if number == ObjectNumber::NULL {
-            OptionObject::NoId
+            None
         } else {
-            OptionObject::Id(ObjectNumber(number))
+            Some(ObjectNumber(number))
         }
     }
 
@@ -90,33 +69,20 @@ impl ObjectNumber {
     {
         ObjectNumber(ObjectNumber::NULL)
     }
-
-    pub fn eq(self, other: ObjectNumber) -> bool
-        ensures { result ≡ same_object self other }
-    {
-        self.0 == other.0
-    }
 }
 
 // The kind of a target.
-#[derive(Clone, Copy)]
+#[derive(Clone, Copy, PartialEq, Eq)]
 pub enum Kind {
     Object,
     Symbolic,
 }
 
 // An object, or a symbolic link to a registered name.
-#[derive(Clone, Copy)]
+#[derive(Clone, Copy, PartialEq, Eq)]
 pub enum Target {
     Object(ObjectNumber),
     Symbolic(NameNumber),
-}
-
-// What may be missing where a target is looked for: an existing target, or an expected one.
-#[derive(Clone, Copy)]
-pub enum OptionTarget {
-    Absent,
-    Present(Target),
 }
 
 impl Target {
@@ -133,110 +99,82 @@ impl Target {
     pub fn is_null(self) -> bool
         ensures { result ≡ is_null self }
     {
-        let OptionObject::Id(oid) = self.try_id() else {
-            return false;
-        };
-        oid.0 == ObjectNumber::NULL
+        match self {
+            Target::Symbolic(_) => false,
+            Target::Object(oid) => oid.0 == ObjectNumber::NULL,
+        }
     }
 
-    pub fn try_id(self) -> OptionObject
+    pub fn try_id(self) -> Option<ObjectNumber>
         ensures { result ≡ try_id self }
     {
         match self {
-            Target::Symbolic(_) => OptionObject::NoId,
-            Target::Object(oid) => OptionObject::Id(oid),
+            Target::Symbolic(_) => None,
+            Target::Object(oid) => Some(oid),
         }
     }
 
-    pub fn try_name(self) -> OptionName
+    pub fn try_name(self) -> Option<NameNumber>
         ensures { result ≡ try_name self }
     {
         match self {
-            Target::Symbolic(name) => OptionName::Name(name),
-            Target::Object(_) => OptionName::NoName,
-        }
-    }
-
-    // Both objects of one number, or both links to one name.
-    pub fn eq(self, other: Target) -> bool
-        ensures { result ≡ same self other }
-    {
-        match self {
-            Target::Object(lhs) => match other {
-                Target::Object(rhs) => lhs.eq(rhs),
-                Target::Symbolic(_) => false,
-            },
-            Target::Symbolic(lhs) => match other {
-                Target::Object(_) => false,
-                Target::Symbolic(rhs) => lhs.eq(rhs),
-            },
+            Target::Symbolic(name) => Some(name),
+            Target::Object(_) => None,
         }
     }
 }
 
-// A target in a record or an answer: a kind byte and a number.
-impl OptionTarget {
+// ---- a target that may be missing, in a record or an answer: a kind byte and a number
+
+// The kinds.
+impl Target {
     pub const NONE: u64 = 0;
 
     pub const OBJECT: u64 = 1;
 
     pub const SYMBOLIC: u64 = 2;
+}
 
-    pub fn byte(self) -> u64
-        ensures { result ≡ target_byte self }
-    {
-        let OptionTarget::Present(target) = self else {
-            return OptionTarget::NONE;
-        };
-        match target {
-            Target::Object(_) => OptionTarget::OBJECT,
-            Target::Symbolic(_) => OptionTarget::SYMBOLIC,
-        }
-    }
-
-    pub fn is_object(self) -> bool
-        ensures { result ≡ is_object self }
-    {
-        self.byte() == OptionTarget::OBJECT
-    }
-
-    pub fn is_symbolic(self) -> bool
-        ensures { result ≡ is_symbolic self }
-    {
-        self.byte() == OptionTarget::SYMBOLIC
-    }
-
-    // Both absent, or both present and the same.
-    pub fn eq(self, other: OptionTarget) -> bool
-        ensures { result ≡ same_option self other }
-    {
-        match self {
-            OptionTarget::Absent => match other {
-                OptionTarget::Absent => true,
-                OptionTarget::Present(_) => false,
-            },
-            OptionTarget::Present(lhs) => match other {
-                OptionTarget::Absent => false,
-                OptionTarget::Present(rhs) => lhs.eq(rhs),
-            },
-        }
-    }
-
-    pub fn number(self) -> u64
-        ensures { result ≡ target_number self }
-    {
-        let OptionTarget::Present(target) = self else {
-            return 0;
-        };
-        match target {
-            Target::Object(oid) => oid.0,
-            Target::Symbolic(name) => name.0 as u64,
-        }
+pub fn target_byte(target: Option<Target>) -> u64
+    ensures { result ≡ target_byte target }
+{
+    match target {
+        None => Target::NONE,
+        Some(Target::Object(_)) => Target::OBJECT,
+        Some(Target::Symbolic(_)) => Target::SYMBOLIC,
     }
 }
 
+pub fn target_number(target: Option<Target>) -> u64
+    ensures { result ≡ target_number target }
+{
+    match target {
+        None => 0,
+        Some(Target::Object(oid)) => oid.0,
+        Some(Target::Symbolic(name)) => name.0 as u64,
+    }
+}
+
+pub fn is_object(target: Option<Target>) -> bool
+    ensures { result ≡ is_object target }
+{
+    matches!(target, Some(Target::Object(_)))
+}
+
+pub fn is_symbolic(target: Option<Target>) -> bool
+    ensures { result ≡ is_symbolic target }
+{
+    matches!(target, Some(Target::Symbolic(_)))
+}
+
+// A number that stands for no variant of an enum.
+#[derive(Clone, Copy, PartialEq, Eq)]
+pub struct NoSuchNumber(pub u64);
+
+// ---- where a value is found
+
 // What reading a name comes to: the value, and the place where it was found. A broken loose value hides no packed one.
-#[derive(Clone, Copy)]
+#[derive(Clone, Copy, PartialEq, Eq)]
 pub enum Found {
     Loose(Target),
     Packed(ObjectNumber),
@@ -257,15 +195,13 @@ impl Found {
 
     pub const ABSENT_BEHIND_BROKEN: u64 = 5;
 
-    pub fn value(self) -> OptionTarget
+    pub fn value(self) -> Option<Target>
         ensures { result ≡ value_in self }
     {
         match self {
-            Found::Loose(target) => OptionTarget::Present(target),
-            Found::Packed(oid) => OptionTarget::Present(Target::Object(oid)),
-            Found::PackedBehindBroken(oid) => OptionTarget::Present(Target::Object(oid)),
-            Found::Absent => OptionTarget::Absent,
-            Found::AbsentBehindBroken => OptionTarget::Absent,
+            Found::Loose(target) => Some(target),
+            Found::Packed(oid) | Found::PackedBehindBroken(oid) => Some(Target::Object(oid)),
+            Found::Absent | Found::AbsentBehindBroken => None,
         }
     }
 

@@ -1,4 +1,4 @@
--- Digits: what each is, and turns and ends of the loops over them. Assumes nothing.
+-- Digits: turns and ends of the loops over them. Assumes nothing.
 use mathlib.Core.Path.{◌≡◌, sym, ap, ap₂, ◌∙◌}
 use mathlib.Core.Bool.{true}
 use mathlib.Core.List.{List, [], ◌∷◌, ◌++◌, append-nil}
@@ -9,20 +9,11 @@ use native.Mathlib.Omega.{arith}
 use lib.ListN.{length, get_or, take, drop, set, length-set, length-drop, drop_of_length-le}
 use lib.Seq.{drop-cons, drop-set-lt, get_or-set_same, take_at, length-take-le}
 use lib.Dec.{lit<}
-use borrow.Author.Tests.{lt-ltb, le-ltb}
 use Rattle.model.specs.Basic.{all}
 use Rattle.model.specs.PackedText.{digit, digits_on, ref_line, is_digit, digit_value, digits_from}
 use Rattle.word.specs.Cut.{put}
 use Rattle.word.proofs.Tests.{both_true}
 use Rattle.model.proofs.Digits.{value_small, digits_append, length_digits}
-
--- ---- a digit
-
-pub digit_low : (v : ℕ) → v < 10 → 48 + v ≡ digit v
-digit_low v h = rw (lt-ltb v 10 h)
-
-pub digit_high : (v : ℕ) → 10 ≤ v → 87 + v ≡ digit v
-digit_high v h = rw (le-ltb v 10 h)
 
 -- ---- digits written
 
@@ -38,15 +29,6 @@ put_turn s r x (suc j) d q z h e =
     rw k (ap (digits_on j (x / 16)) f ∙ e)
 
 -- ---- a ref line written
-
-pub name_room : (r name : List ℕ) → length r ≡ 2 + length name → 1 + length name < length (set r 0 32)
-name_room r name h = rw length-set (omega arith)
-
-pub name_part_lem : (r name : List ℕ) → length r ≡ 2 + length name → 1 + length name ≤ length (set (set r 0 32) (1 + length name) 10)
-name_part_lem r name h = rw (length-set, length-set) (omega arith)
-
-pub name_length : (r name : List ℕ) → length (set (set r 0 32) (1 + length name) 10) ≡ length r
-name_length r name = length-set (set r 0 32) (1 + length name) 10 ∙ length-set r 0 32
 
 pub name_done : (r b name : List ℕ) → length r ≡ 2 + length name → b ≡ name
     → put 1 (1 + length name - 1) (set (set r 0 32) (1 + length name) 10) b ≡ 32 ∷ (name ++ (10 ∷ []))

@@ -1,22 +1,22 @@
 -- What a line says: each way out of the functions that look at one. Assumes nothing.
-use mathlib.Core.Path.{◌≡◌, sym, ap, ◌∙◌}
-use mathlib.Core.Bool.{Bool, true, false, ◌&&◌, not, and-false}
+use Rattle.std.specs.Prelude.{Option, Some, None}
+use mathlib.Core.Path.{◌≡◌, refl, sym, ap, ◌∙◌}
+use mathlib.Core.Bool.{Bool, true, false, cond, ◌&&◌, not, and-true, and-false}
 use mathlib.Core.List.{List}
-use mathlib.Core.Option.{none, some}
 use Prim.Native.Nat.{ℕ, ◌-◌, ◌^◌, ◌≤◌, ◌<◌}
 use native.Mathlib.Omega.{arith}
 use lib.ListN.{length, get_or, take, drop, length-take, get_or-eq_default}
-use lib.Seq.{take-add, length-take-le}
-use borrow.Author.Tests.{eq-eqb, ne_eqb, lt-ltb, not-true, not-false}
-use Rattle.word.proofs.Tests.{every_false}
-use Rattle.model.specs.Basic.{all}
+use lib.Seq.{take-add}
+use lib.Dec.{eqb, leb}
+use borrow.Author.Tests.{lt-ltb, leb-true, leb-false, not-true, not-false}
+use Rattle.word.specs.Codec.{is_some}
+use Rattle.word.proofs.Tests.{both_true, every_at}
+use Rattle.model.specs.Basic.{every, all}
 use Rattle.model.specs.Names.{before, is_name, is_char, under, packable}
 use Rattle.model.specs.Store.{is_id}
-use Rattle.model.specs.PackedText.{is_digit, digits_from, ref_tests, ref_in, is_peeled, ref_said, line_said}
+use Rattle.model.specs.PackedText.{is_digit, digits_from, Ref, ref_tests, ref_in, is_peeled, ref_said, line_said}
 use Rattle.model.proofs.Digits.{all_last, ref_reaches, ref_small}
 use Rattle.names.proofs.Bytes.{to_end}
-use Rattle.texts.specs.declared.OptionNumber.{OptionNumber}
-use Rattle.texts.specs.declared.OptionNumber.TheVariants.{NoNumber, Number}
 use Rattle.texts.specs.declared.Said.{Said}
 use Rattle.texts.specs.declared.Said.TheVariants as said
 use Rattle.texts.specs.Lines.{Digits, ref_by, SaysRef, SaysLine}
@@ -24,77 +24,74 @@ use Rattle.texts.specs.Lines.{Digits, ref_by, SaysRef, SaysLine}
 -- ---- a ref line
 
 module _ (l : List ℕ) where
-  -- a test that fails
-  ref_off : (i : ℕ) → get_or (ref_tests l) i true ≡ false → none ≡ ref_in l
+  some_if : (t : Bool) (r : Ref) → is_some (cond t (Some r) None) ≡ t
+  some_if true r = refl
+  some_if false r = refl
+
+  tests : is_some (ref_in l) ≡ every (ref_tests l)
   unfolding ref_in
-  ref_off i h = rw (every_false (ref_tests l) i h)
+  tests = some_if (every (ref_tests l)) _
 
-  pub ref_short : length l < 41 → none ≡ ref_in l
-  ref_short h =
-      let k : length l ≤ 40 = omega arith in
-      ref_off 2 (ap (is_char " ") (get_or-eq_default l 0 k))
+  -- the tests of the code: a line that is too short has no space at 40
+  pub ref_is :
+      is_some (ref_in l)
+      ≡ (leb 41 (length l)
+      && (all is_digit (take 40 l) && (under "000000000000000000000000" l && (eqb (get_or l 40 0) 32 && is_name (take (length l - 41) (drop 41 l))))))
+  ref_is = tests ∙ named ∙ go (leb 41 (length l)) refl
+    where
+      named :
+          every (ref_tests l)
+          ≡ (all is_digit (take 40 l) && (under "000000000000000000000000" l && (eqb (get_or l 40 0) 32 && is_name (take (length l - 41) (drop 41 l)))))
+      named =
+          ap (λ (t : Bool). all is_digit (take 40 l) && (under "000000000000000000000000" l && (eqb (get_or l 40 0) 32 && t)))
+          (and-true (is_name (drop 41 l)) ∙ ap is_name (sym (to_end l 41)))
 
-  pub ref_no_space : (get_or l 40 0 ≡ 32 → ⊥) → none ≡ ref_in l
-  ref_no_space d = ref_off 2 (ne_eqb (get_or l 40 0) 32 d)
+      go :
+          (t : Bool)
+          → leb 41 (length l) ≡ t
+          → (all is_digit (take 40 l) && (under "000000000000000000000000" l && (eqb (get_or l 40 0) 32 && is_name (take (length l - 41) (drop 41 l)))))
+          ≡ (t && (all is_digit (take 40 l) && (under "000000000000000000000000" l && (eqb (get_or l 40 0) 32 && is_name (take (length l - 41) (drop 41 l))))))
+      go true q = refl
+      go false q =
+          let h : length l < 41 = leb-false 41 (length l) q in
+          let k : length l ≤ 40 = omega arith in
+          ap (λ (t : Bool). all is_digit (take 40 l) && (under "000000000000000000000000" l && (t && is_name (take (length l - 41) (drop 41 l)))))
+          (ap (is_char " ") (get_or-eq_default l 0 k))
+          ∙ ap (λ (t : Bool). all is_digit (take 40 l) && t) (and-false (under "000000000000000000000000" l))
+          ∙ and-false (all is_digit (take 40 l))
 
-  pub ref_head : 41 ≤ length l → 40 ≡ length (take 40 l)
-  ref_head h = sym (length-take-le 40 l (omega arith))
+  pub no_digits : (d : Bool) → d ≡ all is_digit (take 40 l) → d ≡ false → false ≡ is_some (ref_in l)
+  no_digits d e h = rw (ref_is, sym e ∙ h) (sym (and-false (leb 41 (length l))))
 
-  module _ (b : Bool) (e : b ≡ all is_digit (take 40 l)) where
-    pub ref_no_digits : not b ≡ true → none ≡ ref_in l
-    ref_no_digits h = ref_off 0 (sym e ∙ not-true b h)
+  pub ref_long : is_some (ref_in l) ≡ true → 41 ≤ length l
+  ref_long h = leb-true 41 (length l) (both_true (leb 41 (length l)) _ (sym ref_is ∙ h)).0
 
-    pub ref_digits : not b ≡ false → Digits (take 16 (drop 24 l))
+  module _ (b : Bool) (e : b ≡ is_some (ref_in l)) where
+    pub ref_none : b ≡ false → None ≡ ref_in l
+    unfolding ref_in
+    ref_none h = rw (sym tests ∙ sym e ∙ h)
+
+    pub ref_digits : b ≡ true → Digits (take 16 (drop 24 l))
     ref_digits h = record {
       few = simp length-take (omega arith);
-      digits = all_last is_digit (take 24 l) (take 16 (drop 24 l)) (ap (all is_digit) (sym (take-add 24 16 l)) ∙ sym e ∙ not-false b h);
+      digits =
+          all_last is_digit (take 24 l) (take 16 (drop 24 l))
+          (ap (all is_digit) (sym (take-add 24 16 l)) ∙ every_at (ref_tests l) 0 (sym tests ∙ sym e ∙ h));
     }
 
-    module _ (z : Bool) (f : z ≡ under "000000000000000000000000" l) where
-      pub ref_no_zeros : not z ≡ true → none ≡ ref_in l
-      ref_no_zeros h = ref_off 1 (sym f ∙ not-true z h)
-
-      module _ (n : Bool) (g : n ≡ is_name (take (length l - 41) (drop 41 l))) where
-        pub ref_no_name : not n ≡ true → none ≡ ref_in l
-        ref_no_name h = ref_off 3 (ap is_name (sym (to_end l 41)) ∙ sym g ∙ not-true n h)
-
-        pub ref_done : not b ≡ false → not z ≡ false → get_or l 40 0 ≡ 32 → not n ≡ false → (x : ℕ) → x ≡ digits_from 0 (take 16 (drop 24 l))
-            → some (record { name = drop 41 l; object = x }) ≡ ref_in l
-        unfolding ref_in
-        ref_done p q s t x v =
-            let name : is_name (drop 41 l) ≡ true = ap is_name (sym (to_end l 41)) ∙ sym g ∙ not-false n t in
-            rw (sym e ∙ not-false b p, sym f ∙ not-false z q, eq-eqb (get_or l 40 0) 32 s, name, v)
-
--- ---- `^` and 40 digits
-
-module _ (l : List ℕ) (m : Bool) (e : m ≡ under "^" l) where
-  pub peeled_unmarked : not m ≡ true → false ≡ is_peeled l
-  unfolding is_peeled
-  peeled_unmarked h = rw (sym e ∙ not-true m h)
-
-  pub peeled_sized : (length l ≡ 41 → ⊥) → false ≡ is_peeled l
-  unfolding is_peeled
-  peeled_sized d = rw (ne_eqb (length l) 41 d, and-false (under "^" l))
-
-  pub peeled_done : not m ≡ false → length l ≡ 41 → (r : Bool) → r ≡ all is_digit (take (length l - 1) (drop 1 l)) → r ≡ is_peeled l
-  unfolding is_peeled
-  peeled_done h s r f = rw (sym e ∙ not-false m h, eq-eqb (length l) 41 s) (f ∙ ap (all is_digit) (to_end l 1))
-
-pub peeled_not_after : (d b : Bool) → not d ≡ true → false ≡ (d && b)
-peeled_not_after d b h = rw (not-true d h)
-
-pub peeled_after : (d b r : Bool) → not d ≡ false → r ≡ b → r ≡ (d && b)
-peeled_after d b r h e = rw (not-false d h) e
+    pub ref_done : b ≡ true → (x : ℕ) → x ≡ digits_from 0 (take 16 (drop 24 l)) → Some (record { name = drop 41 l; object = x }) ≡ ref_in l
+    unfolding ref_in
+    ref_done h x v = rw (sym tests ∙ sym e ∙ h, v)
 
 -- ---- a line that must be a ref line
 
-module _ (last l : List ℕ) (o : OptionNumber) (e : ref_by o l ≡ ref_in l) where
-  pub ref_malformed : o ≡ NoNumber → SaysRef said.Malformed last l
-  ref_malformed q = record { says = λ i. ap (ref_said i last) (sym (ap (λ (o : OptionNumber). ref_by o l) q) ∙ e); sure = tt }
+module _ (last l : List ℕ) (o : Option ℕ) (e : ref_by o l ≡ ref_in l) where
+  pub ref_malformed : o ≡ None → SaysRef said.Malformed last l
+  ref_malformed q = record { says = λ i. ap (ref_said i last) (sym (ap (λ (o : Option ℕ). ref_by o l) q) ∙ e); sure = tt }
 
-  module _ (x : ℕ) (q : o ≡ Number x) where
-    is_ref_lem : ref_in l ≡ some (record { name = drop 41 l; object = x })
-    is_ref_lem = sym e ∙ ap (λ (o : OptionNumber). ref_by o l) q
+  module _ (x : ℕ) (q : o ≡ Some x) where
+    is_ref_lem : ref_in l ≡ Some (record { name = drop 41 l; object = x })
+    is_ref_lem = sym e ∙ ap (λ (o : Option ℕ). ref_by o l) q
 
     pub name_reaches : 41 ≤ length l
     name_reaches = ref_reaches l (record { name = drop 41 l; object = x }) is_ref_lem

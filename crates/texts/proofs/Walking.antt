@@ -1,19 +1,19 @@
 -- A text from line to line: what a step leaves, and what the lines before a place say. Assumes nothing.
+use Rattle.std.specs.Prelude.{Option, Some, None, Result, Ok}
+use Rattle.std.proofs.Common.{ControlFlow, Break}
+use Rattle.model.specs.declared.Refusal.{Refusal}
 use mathlib.Core.Path.{◌≡◌, refl, sym, ap, ap₂, subst, ◌∙◌}
 use mathlib.Core.Bool.{true, false, false≢true}
 use mathlib.Core.List.{List, [], ◌∷◌, ◌++◌, append-nil, append_assoc}
-use mathlib.Core.Option.{Option, none, some}
 use Prim.Native.Nat.{ℕ, suc, ◌+◌, ◌-◌, ◌^◌, ◌≤◌, ◌<◌}
 use native.Mathlib.Omega.{arith}
 use lib.ListN.{length, take, drop, length-append, length-drop}
 use lib.Seq.{take-add, take-length, drop-length, drop-drop, drop_at, length-take-le}
-use borrow.Author.Tests.{eq-eqb, ne_eqb}
+use borrow.Author.Tests.{ne_eqb}
 use Rattle.word.specs.Be.{cut}
 use Rattle.word.specs.Codec.{is_some}
 use Rattle.model.specs.Basic.{collect}
 use Rattle.model.specs.Names.{pieces}
-use Rattle.model.specs.Outcome.{Outcome}
-use Rattle.model.specs.Outcome.Outcome.{pass}
 use Rattle.model.specs.PackedText.{Ref, ref_in, Reading, read_on, read_lines, read_text}
 use Rattle.model.proofs.Digits.{ref_reaches, ref_name}
 use Rattle.model.proofs.TextLines.{some_piece, Says, line_says, says_nothing, read_more}
@@ -25,33 +25,13 @@ use Rattle.texts.specs.declared.Said.TheVariants as said
 use Rattle.texts.specs.declared.walk.Ending.{Ending}
 use Rattle.texts.specs.declared.walk.Ending.TheVariants as ending
 use Rattle.texts.specs.declared.walk.Place.{Place}
-use Rattle.texts.specs.declared.walk.Next.{Next}
-use Rattle.texts.specs.declared.walk.Next.TheVariants.{Stopped, Going}
 use Rattle.texts.specs.Lines.{said_by, SaysLine}
 use Rattle.texts.specs.Walk.{refs_of, refs_in, first_refs, unended_as, past_as, Roomy, read_from, onto, At, end_by, Goes, Checks}
 
 -- ---- a step
 
-pub ended_whole : (n : ℕ) → n ≡ 0 → Stopped ending.Whole ≡ unended_as n
-ended_whole n e = rw (eq-eqb n 0 e)
-
-pub ended_not : (n : ℕ) → (n ≡ 0 → ⊥) → Stopped ending.Malformed ≡ unended_as n
+ended_not : (n : ℕ) → (n ≡ 0 → ⊥) → Break ending.Malformed ≡ unended_as n
 ended_not n e = rw (ne_eqb n 0 e)
-
-module _ (p : Place) (n : ℕ) (s : Said) where
-  pub past_malformed : s ≡ said.Malformed → Stopped ending.Malformed ≡ past_as p n s
-  past_malformed e = rw e
-
-  pub past_unpackable : s ≡ said.Unpackable → Stopped ending.Unpackable ≡ past_as p n s
-  past_unpackable e = rw e
-
-  pub past_nothing : s ≡ said.Nothing
-      → Going (record { at = p.at + n + 1; lines = p.lines + 1; refs = p.refs; last = p.last; end = p.end; direct = false }) ≡ past_as p n s
-  past_nothing e = rw e
-
-  pub past_ref : s ≡ said.Ref
-      → Going (record { at = p.at + n + 1; lines = p.lines + 1; refs = p.refs + 1; last = p.at + 41; end = p.at + n; direct = true }) ≡ past_as p n s
-  past_ref e = rw e
 
 -- ---- the refs of the first lines
 
@@ -81,9 +61,9 @@ module _ (t : List ℕ) (k : ℕ) (l : List ℕ) (ps : List (List ℕ)) (e : dro
 onto_onto : (rs qs : List Ref) (x : Reading) → onto rs (onto qs x) ≡ onto (rs ++ qs) x
 onto_onto rs qs x = ap (λ (l : List Ref). record { refs = l; end = x.end }) (sym (append_assoc rs qs x.refs))
 
-some_of : {A : Type 0} (o : Option A) → is_some o ≡ true → (a : A) × (o ≡ some a)
-some_of none h = absurd (false≢true h)
-some_of (some a) h = (a, refl)
+some_of : {A : Type 0} (o : Option A) → is_some o ≡ true → (a : A) × (o ≡ Some a)
+some_of None h = absurd (false≢true h)
+some_of (Some a) h = (a, refl)
 
 -- without a line feed there is one piece
 pub one_piece : (l : List ℕ) → up_to 10 l ≡ length l → pieces 10 l ≡ l ∷ []
@@ -103,9 +83,9 @@ name_cut t at n h l =
 -- ---- at a place
 
 -- nothing is read before the first line
-pub at_start : (t : List ℕ) → At t (record { at = 0; lines = 0; refs = 0; last = 0; end = 0; direct = false })
+start : (t : List ℕ) → At t (record { at = 0; lines = 0; refs = 0; last = 0; end = 0; direct = false })
 unfolding first_refs read_from read_text
-at_start t = record {
+start t = record {
   inside = omega arith;
   name = omega arith;
   named = omega arith;
@@ -115,6 +95,12 @@ at_start t = record {
   refs = refl;
   reads = refl;
 }
+
+pub at_start : (t : List ℕ) (p : Place) → p.at ≡ 0 → p.lines ≡ 0 → p.refs ≡ 0 → p.last ≡ 0 → p.end ≡ 0 → p.direct ≡ false → At t p
+at_start t p a b c d e f =
+    let first : p ≡ record { at = 0; lines = 0; refs = 0; last = 0; end = 0; direct = false } =
+    λ i. record { at = a i; lines = b i; refs = c i; last = d i; end = e i; direct = f i } in
+    subst (At t) (sym first) (start t)
 
 module _ (t : List ℕ) (p : Place) (here : At t p) (n : ℕ) (e : n ≡ up_to 10 (take (length t - p.at) (drop p.at t))) where
   rest : List ℕ
@@ -140,7 +126,7 @@ module _ (t : List ℕ) (p : Place) (here : At t p) (n : ℕ) (e : n ≡ up_to 1
       record { at = omega (arith, room); name = omega arith; lines = omega arith; refs = omega arith }
 
   -- the rest has no line feed: nothing is there, or a line without one
-  pub stops : n ≡ length (take (length t - p.at) (drop p.at t)) → (r : Next) → r ≡ unended_as n → Goes t p r
+  pub stops : n ≡ length (take (length t - p.at) (drop p.at t)) → (r : ControlFlow Ending Place) → r ≡ unended_as n → Goes t p r
   unfolding read_from read_lines rest
   stops q r s = subst (Goes t p) (sym s) (go (drop p.at t) refl (q ∙ ap length (to_end t p.at)))
     where
@@ -203,14 +189,14 @@ module _ (t : List ℕ) (p : Place) (here : At t p) (n : ℕ) (e : n ≡ up_to 1
       reads_on =
           ap (λ (ps : List (List ℕ)). read_lines ps i last p.direct) splits
           ∙ read_more line others i last p.direct (some_piece 10 (drop (n + 1) (drop p.at t)))
-          ∙ ap (λ (o : Outcome (Option Ref)). read_on i last o (read_lines others)) (sym (h.says i))
+          ∙ ap (λ (o : Result (Option Ref) Refusal). read_on i last o (read_lines others)) (sym (h.says i))
 
     -- nothing is said
     on_nothing : SaysLine said.Nothing last p.direct (take n (drop p.at t))
         → At t (record { at = p.at + n + 1; lines = p.lines + 1; refs = p.refs; last = p.last; end = p.end; direct = false })
     unfolding read_from last i line
     on_nothing h =
-        let silent : ref_in (take n (drop p.at t)) ≡ none =
+        let silent : ref_in (take n (drop p.at t)) ≡ None =
         says_nothing p.direct (take n (drop p.at t)) (subst (Says last p.direct (take n (drop p.at t))) (sym (h.says i)) (line_says i last p.direct (take n (drop p.at t)))) in
         let same : first_refs (p.lines + 1) t ≡ first_refs p.lines t =
         first ∙ ap (λ (o : Option Ref). first_refs p.lines t ++ refs_of o) silent ∙ append-nil (first_refs p.lines t) in
@@ -234,7 +220,7 @@ module _ (t : List ℕ) (p : Place) (here : At t p) (n : ℕ) (e : n ≡ up_to 1
         → At t (record { at = p.at + n + 1; lines = p.lines + 1; refs = p.refs + 1; last = p.at + 41; end = p.at + n; direct = true })
     unfolding read_from last i line rest
     on_ref h =
-        let k : (r : Ref) × (ref_in (take n (drop p.at t)) ≡ some r) = some_of (ref_in (take n (drop p.at t))) h.sure in
+        let k : (r : Ref) × (ref_in (take n (drop p.at t)) ≡ Some r) = some_of (ref_in (take n (drop p.at t))) h.sure in
         let r : Ref = k.0 in
         let wide : 41 ≤ length (take n (drop p.at t)) = ref_reaches (take n (drop p.at t)) r k.1 in
         let size : n ≡ length (take n (drop p.at t)) = parts_first 10 (drop p.at t) n up in
@@ -255,7 +241,7 @@ module _ (t : List ℕ) (p : Place) (here : At t p) (n : ℕ) (e : n ≡ up_to 1
               here.reads
               ∙ ap (onto (first_refs p.lines t))
               (reads_on said.Ref h
-              ∙ ap (λ (o : Option Ref). read_on i last (pass o) (read_lines others)) k.1
+              ∙ ap (λ (o : Option Ref). read_on i last (Ok o) (read_lines others)) k.1
               ∙ ap₂ (λ (ps : List (List ℕ)) (m : List ℕ). onto (r ∷ []) (read_lines ps (i + 1) m true)) onward name)
               ∙ onto_onto (first_refs p.lines t) (r ∷ []) then
               ∙ ap (λ (rs : List Ref). onto rs then) (sym more);
@@ -269,7 +255,7 @@ module _ (t : List ℕ) (p : Place) (here : At t p) (n : ℕ) (e : n ≡ up_to 1
     moves_as said.Ref h = (on_ref h, omega arith)
 
     pub moves : (s : Said) → SaysLine s (cut p.last (p.end - p.last) t) p.direct (take n (take (length t - p.at) (drop p.at t)))
-        → (r : Next) → r ≡ past_as p n s → Goes t p r
+        → (r : ControlFlow Ending Place) → r ≡ past_as p n s → Goes t p r
     unfolding last
     moves s h r q =
         subst (Goes t p) (sym q)
@@ -277,8 +263,8 @@ module _ (t : List ℕ) (p : Place) (here : At t p) (n : ℕ) (e : n ≡ up_to 1
 
 -- ---- a whole text
 
--- it is stopped there,
-pub checked : (t : List ℕ) (p : Place) (r : Next) (e : Ending) → At t p → Goes t p r → r ≡ Stopped e
+-- it is stopped there
+pub checked : (t : List ℕ) (p : Place) (r : ControlFlow Ending Place) (e : Ending) → At t p → Goes t p r → r ≡ Break e
     → Checks t (record { lines = p.lines; refs = p.refs; ending = e })
 checked t p r e h f q = record {
   lines =
@@ -292,14 +278,3 @@ checked t p r e h f q = record {
   refs = h.refs;
   reads = h.reads ∙ ap (onto (first_refs p.lines t)) (subst (Goes t p) q f) ∙ ap (λ (rs : List Ref). record { refs = rs; end = end_by e (p.lines + 1) }) (append-nil (first_refs p.lines t));
 }
-
--- or goes on, nearer to its end
-pub goes_on : (t : List ℕ) (p : Place) (r : Next) (q : Place) → Goes t p r → r ≡ Going q → At t q
-goes_on t p r q f e = (subst (Goes t p) e f).0
-
-pub goes_nearer : (t : List ℕ) (p : Place) (r : Next) (q : Place) → Goes t p r → r ≡ Going q → length t - q.at < length t - p.at
-goes_nearer t p r q f e =
-    let g : At t q × (p.at < q.at) = subst (Goes t p) e f in
-    let a : q.at ≤ length t = g.0.inside in
-    let b : p.at < q.at = g.1 in
-    omega arith

@@ -1,14 +1,10 @@
 -- What the functions of this crate say of a line, by the model's definitions.
-use Rattle.std.specs.Prelude.{◌≡◌, Bool, true, List, ℕ, ◌≤◌, length, drop}
-use Rattle.std.proofs.Math.Option.{Option, none, some}
+use Rattle.model.specs.declared.Refusal.{Refusal}
+use Rattle.std.specs.Prelude.{◌≡◌, Bool, true, List, ℕ, ◌≤◌, length, drop, Option, Some, None, Result, Ok, Err}
 use Rattle.word.specs.Codec.{is_some}
 use Rattle.model.specs.declared.Refusal.TheVariants.{BadLoad, MalformedLine}
 use Rattle.model.specs.Basic.{all}
-use Rattle.model.specs.Outcome.{Outcome}
-use Rattle.model.specs.Outcome.Outcome.{refuse, pass}
 use Rattle.model.specs.PackedText.{Ref, is_digit, ref_in, ref_said, line_said}
-use Rattle.texts.specs.declared.OptionNumber.{OptionNumber}
-use Rattle.texts.specs.declared.OptionNumber.TheVariants.{NoNumber, Number}
 use Rattle.texts.specs.declared.Said.{Said}
 use Rattle.texts.specs.declared.Said.TheVariants as said
 
@@ -18,16 +14,16 @@ pub record Digits (ds : List ℕ) : Type 0 where
   pub digits : all is_digit ds ≡ true
 
 -- the ref of a line, by its object
-abbrev pub ref_by : OptionNumber → List ℕ → Option Ref
-ref_by NoNumber l = none
-ref_by (Number x) l = some (record { name = drop 41 l; object = x })
+abbrev pub ref_by : Option ℕ → List ℕ → Option Ref
+ref_by None l = None
+ref_by (Some x) l = Some (record { name = drop 41 l; object = x })
 
 -- what line i says
-abbrev pub said_by : Said → ℕ → List ℕ → Outcome (Option Ref)
-said_by said.Malformed i l = refuse (MalformedLine i)
-said_by said.Unpackable i l = refuse BadLoad
-said_by said.Nothing i l = pass none
-said_by said.Ref i l = pass (ref_in l)
+abbrev pub said_by : Said → ℕ → List ℕ → Result (Option Ref) Refusal
+said_by said.Malformed i l = Err (MalformedLine i)
+said_by said.Unpackable i l = Err BadLoad
+said_by said.Nothing i l = Ok None
+said_by said.Ref i l = Ok (ref_in l)
 
 -- and then it is a ref line
 abbrev pub Sure : Said → List ℕ → Type 0

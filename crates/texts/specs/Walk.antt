@@ -1,6 +1,6 @@
 -- Where a reader stands in a text, and what is known there: the lines before it are read, and the rest is still to be.
-use Rattle.std.specs.Prelude.{◌≡◌, true, false, cond, List, [], ◌∷◌, ◌++◌, ℕ, ◌+◌, ◌-◌, ◌≤◌, ◌<◌, ◌^◌, length, take, drop, eqb}
-use Rattle.std.proofs.Math.Option.{Option, none, some}
+use Rattle.std.specs.Prelude.{◌≡◌, true, false, cond, List, [], ◌∷◌, ◌++◌, ℕ, ◌+◌, ◌-◌, ◌≤◌, ◌<◌, ◌^◌, length, take, drop, eqb, Option, Some, None}
+use Rattle.std.proofs.Common.{ControlFlow, Break, Continue}
 use Rattle.word.specs.Be.{cut}
 use Rattle.model.specs.declared.Refusal.TheVariants.{BadLoad, MalformedLine}
 use Rattle.model.specs.Basic.{collect}
@@ -12,15 +12,13 @@ use Rattle.texts.specs.declared.Said.TheVariants as said
 use Rattle.texts.specs.declared.walk.Ending.{Ending}
 use Rattle.texts.specs.declared.walk.Ending.TheVariants as ending
 use Rattle.texts.specs.declared.walk.Place.{Place}
-use Rattle.texts.specs.declared.walk.Next.{Next}
-use Rattle.texts.specs.declared.walk.Next.TheVariants.{Stopped, Going}
 use Rattle.texts.specs.declared.walk.Checked.{Checked}
 
 -- ---- refs by lines
 
 abbrev pub refs_of : Option Ref → List Ref
-refs_of none = []
-refs_of (some r) = r ∷ []
+refs_of None = []
+refs_of (Some r) = r ∷ []
 
 -- the refs of the ref lines, whatever else stands between them
 abbrev pub refs_in : List (List ℕ) → List Ref
@@ -32,14 +30,14 @@ first_refs k t = refs_in (take k (pieces line_feed t))
 
 -- ---- a step
 
-abbrev pub unended_as : ℕ → Next
-unended_as length = cond (eqb length 0) (Stopped ending.Whole) (Stopped ending.Malformed)
+abbrev pub unended_as : ℕ → ControlFlow Ending Place
+unended_as length = cond (eqb length 0) (Break ending.Whole) (Break ending.Malformed)
 
-abbrev pub past_as : Place → ℕ → Said → Next
-past_as p length said.Malformed = Stopped ending.Malformed
-past_as p length said.Unpackable = Stopped ending.Unpackable
-past_as p length said.Nothing = Going (record { at = p.at + length + 1; lines = p.lines + 1; refs = p.refs; last = p.last; end = p.end; direct = false })
-past_as p length said.Ref = Going (record { at = p.at + length + 1; lines = p.lines + 1; refs = p.refs + 1; last = p.at + 41; end = p.at + length; direct = true })
+abbrev pub past_as : Place → ℕ → Said → ControlFlow Ending Place
+past_as p length said.Malformed = Break ending.Malformed
+past_as p length said.Unpackable = Break ending.Unpackable
+past_as p length said.Nothing = Continue (record { at = p.at + length + 1; lines = p.lines + 1; refs = p.refs; last = p.last; end = p.end; direct = false })
+past_as p length said.Ref = Continue (record { at = p.at + length + 1; lines = p.lines + 1; refs = p.refs + 1; last = p.at + 41; end = p.at + length; direct = true })
 
 -- its numbers fit 64 bits
 pub record Roomy (p : Place) (length : ℕ) : Type 0 where
@@ -75,9 +73,9 @@ end_by ending.Malformed i = faulty i (MalformedLine i)
 end_by ending.Unpackable i = faulty i BadLoad
 
 -- the next line is read, or none is
-abbrev pub Goes : List ℕ → Place → Next → Type 0
-Goes t p (Stopped e) = read_from t p ≡ record { refs = []; end = end_by e (p.lines + 1) }
-Goes t p (Going q) = At t q × (p.at < q.at)
+abbrev pub Goes : List ℕ → Place → ControlFlow Ending Place → Type 0
+Goes t p (Break e) = read_from t p ≡ record { refs = []; end = end_by e (p.lines + 1) }
+Goes t p (Continue q) = At t q × (p.at < q.at)
 
 -- a whole text
 pub record Checks (t : List ℕ) (c : Checked) : Type 0 where

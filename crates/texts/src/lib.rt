@@ -3,6 +3,7 @@
 #![tactic(auto)]
 
 ghost use Rattle.std.specs.Prelude.{◌≡◌, true, ◌&&◌, [], ◌∷◌, ◌++◌, ◌+◌, ◌<◌, length};
+ghost use Rattle.word.specs.Codec.{is_some};
 ghost use Rattle.model.specs.Basic.{all};
 ghost use Rattle.model.specs.PackedText.{digit, digits_on, ref_line, is_digit, digit_value, digits_from, ref_in, is_peeled};
 ghost use Rattle.texts.specs.Lines.{Digits, ref_by, SaysRef, SaysLine};
@@ -23,9 +24,9 @@ impl RefLine {
     // What a line has beside its name.
     pub const FRAME: usize = 42;
 
-    pub const SPACE: u8 = 32;
+    pub const SPACE: u8 = b' ';
 
-    pub const LINE_FEED: u8 = 10;
+    pub const LINE_FEED: u8 = b'\n';
 }
 
 // ---- writing
@@ -36,10 +37,11 @@ fn digit(value: u64) -> u8
     ensures { result ≡ digit value }
 {
     let low = value as u8;
-    if value < 10 {
-        return 48 + low;
+    if low < 10 {
+        b'0' + low
+    } else {
+        b'a' - 10 + low
     }
-    87 + low
 }
 
 // The low digits of x, as many as s has bytes, the highest first.
@@ -47,11 +49,9 @@ fn put_digits(s: &mut [u8], x: u64)
     ensures { s.new ≡ digits_on (length s.old) x [] }
 {
     let mut left = x;
-    let mut i = s.len();
-    while 0 < i {
-        i -= 1;
+    for i in (0..s.len()).rev() {
         s[i] = digit(left % 16);
-        left = left / 16;
+        left /= 16;
     }
 }
 
@@ -63,7 +63,7 @@ fn put_name(rest: &mut [u8], name: &[u8])
     let end = 1 + name.len();
     rest[0] = RefLine::SPACE;
     rest[end] = RefLine::LINE_FEED;
-    word::copy(&mut rest[1..end], name);
+    rest[1..end].copy_from_slice(name);
 }
 
 // A ref line, in a part that is as long.
@@ -71,7 +71,7 @@ pub fn write_packed_ref(line: &mut [u8], name: &[u8], object: u64)
     requires { length line.old ≡ 42 + length name.now }
     ensures { line.new ≡ ref_line (record { name = name.entry.now; object = object }) }
 {
-    put_digits(&mut line[0..RefLine::DIGITS], object);
+    put_digits(&mut line[..RefLine::DIGITS], object);
     put_name(&mut line[RefLine::DIGITS..], name);
 }
 
@@ -80,35 +80,25 @@ pub fn write_packed_ref(line: &mut [u8], name: &[u8], object: u64)
 fn is_digit(byte: u8) -> bool
     ensures { result ≡ is_digit byte }
 {
-    match byte {
-        b'0'..=b'9' | b'a'..=b'f' => true,
-        _ => false,
-    }
+    matches!(byte, b'0'..=b'9' | b'a'..=b'f')
 }
 
 fn are_digits(bytes: &[u8]) -> bool
     ensures { result ≡ all is_digit bytes.now }
 {
-    let mut i: usize = 0;
-    while i < bytes.len() {
-        let ok = is_digit(bytes[i]);
-        if ok {
-            i += 1;
-        } else {
-            return false;
-        }
-    }
-    true
+    bytes.iter().all(|&byte| is_digit(byte))
 }
 
 fn digit_value(byte: u8) -> u64
     requires { is_digit byte ≡ true }
     ensures { result ≡ digit_value byte }
 {
-    if byte < 58 {
-        return (byte - 48) as u64;
-    }
-    (byte - 87) as u64
+    let value = if byte <= b'9' {
+        byte - b'0'
+    } else {
+        byte - b'a' + 10
+    };
+    u64::from(value)
 }
 
 // The number that the digits make, the highest first.
@@ -116,67 +106,54 @@ fn number(digits: &[u8]) -> u64
     requires { Digits digits.now }
     ensures { result ≡ digits_from 0 digits.now }
 {
-    let mut acc: u64 = 0;
-    let mut i: usize = 0;
-    while i < digits.len() {
-        acc = acc * 16 + digit_value(digits[i]);
-        i += 1;
+    let mut acc = 0;
+    for &digit in digits {
+        acc = acc * 16 + digit_value(digit);
     }
     acc
 }
 
 // ---- what a line says, without its line feed
 
-// What may be missing where a ref line is looked for: its object, which may be 0.
-#[derive(Clone, Copy)]
-pub enum OptionNumber {
-    NoNumber,
-    Number(u64),
+// 40 digits, of which the first 24 are zeros, a space, and a name.
+#[tactic(auto, using(crate::proofs::Lines::ref_is))]
+fn is_ref_line(line: &[u8]) -> bool
+    ensures { result ≡ is_some (ref_in line.now) }
+{
+    line.len() >= RefLine::NAME
+        && are_digits(&line[..RefLine::DIGITS])
+        && names::spelling::begins_with(line, b"000000000000000000000000")
+        && line[RefLine::DIGITS] == RefLine::SPACE
+        && names::is_name(&line[RefLine::NAME..])
 }
 
-// The object of a ref line. Its name stands behind the space.
-pub fn reference(line: &[u8]) -> OptionNumber
+// The object of a ref line, which may be 0. Its name stands behind the space.
+#[tactic(auto, using(crate::proofs::Lines::ref_long))]
+pub fn reference(line: &[u8]) -> Option<u64>
     ensures { ref_by result line.now ≡ ref_in line.now }
 {
-    if line.len() < RefLine::NAME {
-        return OptionNumber::NoNumber;
+    if is_ref_line(line) {
+        Some(number(&line[RefLine::ZEROS..RefLine::DIGITS]))
+    } else {
+        None
     }
-    if !are_digits(&line[..RefLine::DIGITS]) {
-        return OptionNumber::NoNumber;
-    }
-    if !names::spelling::begins_with(line, b"000000000000000000000000") {
-        return OptionNumber::NoNumber;
-    }
-    if line[RefLine::DIGITS] != RefLine::SPACE {
-        return OptionNumber::NoNumber;
-    }
-    if !names::is_name(&line[RefLine::NAME..]) {
-        return OptionNumber::NoNumber;
-    }
-    OptionNumber::Number(number(&line[RefLine::ZEROS..RefLine::DIGITS]))
 }
 
 // `^` and 40 digits.
+#[tactic(auto, unfolding(model::specs::PackedText::is_peeled))]
 fn is_peeled(line: &[u8]) -> bool
     ensures { result ≡ is_peeled line.now }
 {
-    if !names::spelling::begins_with(line, b"^") {
-        return false;
-    }
-    if line.len() != RefLine::NAME {
-        return false;
-    }
-    are_digits(&line[1..])
+    names::spelling::begins_with(line, b"^")
+        && line.len() == RefLine::NAME
+        && are_digits(&line[1..])
 }
 
 // The same where the line just before is a ref line.
 fn is_peeled_after(line: &[u8], direct: bool) -> bool
     ensures { result ≡ (direct && is_peeled line.now) }
 {
-    if !direct {
-        return false;
-    }
-    is_peeled(line)
+    direct && is_peeled(line)
 }
 
 // What a line says, by the model's definition: why it is at fault, nothing, or a ref.
@@ -192,7 +169,7 @@ pub enum Said {
 fn ref_said(line: &[u8], last: &[u8]) -> Said
     ensures { SaysRef result last.now line.now }
 {
-    let OptionNumber::Number(object) = reference(line) else {
+    let Some(object) = reference(line) else {
         return Said::Malformed;
     };
     let name = &line[RefLine::NAME..];

@@ -3,6 +3,7 @@ ghost use Rattle.std.specs.Prelude.{◌≡◌, ◌+◌};
 ghost use Rattle.texts.specs.Walk.{unended_as, past_as, Roomy, At, Goes, Checks};
 
 use crate::{RefLine, Said};
+use std::ops::ControlFlow;
 
 // How a text ends: whole, or with a line at fault, which is malformed or says what cannot be loaded.
 #[derive(Clone, Copy)]
@@ -14,7 +15,7 @@ pub enum Ending {
 
 // Where a line begins, with what must be known of those before it: how many there are, how many of them are ref lines, where the name of the
 // last of these stands, and whether that is the line just before.
-#[derive(Clone, Copy)]
+#[derive(Clone, Copy, Default)]
 pub struct Place {
     pub at: usize,
     pub lines: u64,
@@ -24,39 +25,32 @@ pub struct Place {
     pub direct: bool,
 }
 
-#[derive(Clone, Copy)]
-pub enum Next {
-    Stopped(Ending),
-    Going(Place),
-}
-
 // What stands behind the last line feed: nothing, or a line without one.
-fn unended(length: usize) -> Next
+fn unended(length: usize) -> ControlFlow<Ending, Place>
     ensures { result ≡ unended_as length }
 {
     if length == 0 {
-        return Next::Stopped(Ending::Whole);
+        ControlFlow::Break(Ending::Whole)
+    } else {
+        ControlFlow::Break(Ending::Malformed)
     }
-    Next::Stopped(Ending::Malformed)
 }
 
 // Past the line of so many bytes that begins there.
-fn past(place: Place, length: usize, said: Said) -> Next
+fn past(place: Place, length: usize, said: Said) -> ControlFlow<Ending, Place>
     requires { Roomy place length }
     ensures { result ≡ past_as place length said }
 {
     match said {
-        Said::Malformed => Next::Stopped(Ending::Malformed),
-        Said::Unpackable => Next::Stopped(Ending::Unpackable),
-        Said::Nothing => Next::Going(Place {
+        Said::Malformed => ControlFlow::Break(Ending::Malformed),
+        Said::Unpackable => ControlFlow::Break(Ending::Unpackable),
+        Said::Nothing => ControlFlow::Continue(Place {
             at: place.at + length + 1,
             lines: place.lines + 1,
-            refs: place.refs,
-            last: place.last,
-            end: place.end,
             direct: false,
+            ..place
         }),
-        Said::Ref => Next::Going(Place {
+        Said::Ref => ControlFlow::Continue(Place {
             at: place.at + length + 1,
             lines: place.lines + 1,
             refs: place.refs + 1,
@@ -67,19 +61,16 @@ fn past(place: Place, length: usize, said: Said) -> Next
     }
 }
 
-fn next_line(text: &[u8], place: Place) -> Next
+fn next_line(text: &[u8], place: Place) -> ControlFlow<Ending, Place>
     requires { At text.now place }
     ensures { Goes text.now place result }
 {
-    let at = place.at;
-    let rest = &text[at..];
+    let rest = &text[place.at..];
     let length = names::spelling::up_to(rest, RefLine::LINE_FEED);
     if length == rest.len() {
         return unended(length);
     }
-    let from = place.last;
-    let to = place.end;
-    let last = &text[from..to];
+    let last = &text[place.last..place.end];
     let said = crate::line_said(&rest[..length], last, place.direct);
     past(place, length, said)
 }
@@ -96,27 +87,17 @@ pub struct Checked {
 pub fn check(text: &[u8]) -> Checked
     ensures { Checks text.now result }
 {
-    let mut place = Place {
-        at: 0,
-        lines: 0,
-        refs: 0,
-        last: 0,
-        end: 0,
-        direct: false,
-    };
+    let mut place = Place::default();
     loop {
-        let next = next_line(text, place);
-        match next {
-            Next::Stopped(ending) => {
+        match next_line(text, place) {
+            ControlFlow::Break(ending) => {
                 return Checked {
                     lines: place.lines,
                     refs: place.refs,
-                    ending: ending,
+                    ending,
                 };
             }
-            Next::Going(on) => {
-                place = on;
-            }
+            ControlFlow::Continue(next) => place = next,
         }
     }
 }

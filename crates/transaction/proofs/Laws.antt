@@ -1,5 +1,6 @@
 -- What is said of a number that no arm of a match names, and of a test in parts that stops at the first part that fails.
 -- Assumes nothing.
+use Rattle.std.specs.Prelude.{Some, None}
 use Prim.Native.Nat.{ℕ, zero, suc}
 use mathlib.Core.Path.{◌≡◌, refl, sym, ap, ◌∙◌}
 use mathlib.Core.Bool.{Bool, true, false, not, ◌&&◌}
@@ -8,28 +9,23 @@ use borrow.Author.Tests.{not-true, not-false}
 use lib.Dec.{eqb}
 use Rattle.target.specs.declared.ObjectNumber.{ObjectNumber}
 use Rattle.target.specs.declared.Target.{Target}
-use Rattle.target.specs.declared.OptionTarget.TheVariants.{Absent, Present}
-use Rattle.transaction.specs.declared.OptionRefLog.TheVariants.{NoRefLog}
-use Rattle.transaction.specs.declared.OptionPrevious.TheVariants.{NoPrevious}
-use Rattle.transaction.specs.declared.OptionPackedRefs.TheVariants.{NoMode}
 use Rattle.transaction.specs.declared.RefLog.{RefLog}
 use Rattle.transaction.specs.declared.RefLog.TheVariants.{AndReference, Only}
 use Rattle.transaction.specs.declared.LogChange.{LogChange}
 use Rattle.transaction.specs.declared.Change.{Change}
 use Rattle.transaction.specs.declared.Change.TheVariants.{Update, Delete}
 use Rattle.transaction.specs.declared.RefEdit.{RefEdit}
-use Rattle.transaction.specs.declared.ParentIndex.TheVariants.{NoParent}
 use Rattle.transaction.specs.declared.Edit.{Edit}
 use Rattle.transaction.specs.Change.{row_of, log_change, is_only, is_log_only, is_delete}
 use Rattle.transaction.specs.Fields.{ref_log_byte, ref_log_of, previous_of, packed_refs_of, change_byte}
 
 -- past the numbers of an enum
-pub no_ref_log : (n : ℕ) → (n ≡ 0 → ⊥) → (n ≡ 1 → ⊥) → NoRefLog ≡ ref_log_of n
+pub no_ref_log : (n : ℕ) → (n ≡ 0 → ⊥) → (n ≡ 1 → ⊥) → None ≡ ref_log_of n
 no_ref_log zero a b = absurd (a refl)
 no_ref_log (suc zero) a b = absurd (b refl)
 no_ref_log (suc (suc n)) a b = refl
 
-pub no_previous_absent : (n : ℕ) → (n ≡ 0 → ⊥) → (n ≡ 1 → ⊥) → (n ≡ 2 → ⊥) → NoPrevious ≡ previous_of n Absent
+pub no_previous_absent : (n : ℕ) → (n ≡ 0 → ⊥) → (n ≡ 1 → ⊥) → (n ≡ 2 → ⊥) → None ≡ previous_of n None
 no_previous_absent zero a b c = absurd (a refl)
 no_previous_absent (suc zero) a b c = absurd (b refl)
 no_previous_absent (suc (suc zero)) a b c = absurd (c refl)
@@ -37,7 +33,7 @@ no_previous_absent (suc (suc (suc zero))) a b c = refl
 no_previous_absent (suc (suc (suc (suc zero)))) a b c = refl
 no_previous_absent (suc (suc (suc (suc (suc n))))) a b c = refl
 
-pub no_previous_present : (n : ℕ) (t : Target) → (n ≡ 3 → ⊥) → (n ≡ 4 → ⊥) → NoPrevious ≡ previous_of n (Present t)
+pub no_previous_present : (n : ℕ) (t : Target) → (n ≡ 3 → ⊥) → (n ≡ 4 → ⊥) → None ≡ previous_of n (Some t)
 no_previous_present zero t a b = refl
 no_previous_present (suc zero) t a b = refl
 no_previous_present (suc (suc zero)) t a b = refl
@@ -45,7 +41,7 @@ no_previous_present (suc (suc (suc zero))) t a b = absurd (a refl)
 no_previous_present (suc (suc (suc (suc zero)))) t a b = absurd (b refl)
 no_previous_present (suc (suc (suc (suc (suc n))))) t a b = refl
 
-pub no_mode : (n : ℕ) → (n ≡ 1 → ⊥) → (n ≡ 2 → ⊥) → (n ≡ 3 → ⊥) → NoMode ≡ packed_refs_of n
+pub no_mode : (n : ℕ) → (n ≡ 1 → ⊥) → (n ≡ 2 → ⊥) → (n ≡ 3 → ⊥) → None ≡ packed_refs_of n
 no_mode zero a b c = refl
 no_mode (suc zero) a b c = absurd (a refl)
 no_mode (suc (suc zero)) a b c = absurd (b refl)
@@ -74,11 +70,11 @@ both true q h e = e
 both false q h e = h
 
 -- a row with the null id as its leaf-previous
-pub row_begins : (e : RefEdit) (o : ObjectNumber) → o.0 ≡ 0 → ◌≡◌ {A = Edit} (record { update = e; parent_index = NoParent; leaf_referent_previous_oid = o }) (row_of e)
+pub row_begins : (e : RefEdit) (o : ObjectNumber) → o.0 ≡ 0 → ◌≡◌ {A = Edit} (record { update = e; parent_index = None; leaf_referent_previous_oid = o }) (row_of e)
 row_begins e o h = ap (λ (n : ℕ). row_at n) h
   where
     row_at : ℕ → Edit
-    row_at n = record { update = e; parent_index = NoParent; leaf_referent_previous_oid = record { 0 = n } }
+    row_at n = record { update = e; parent_index = None; leaf_referent_previous_oid = record { 0 = n } }
 
 -- a field's byte tells its case
 pub only_is : (c : Change) (l : LogChange) (b : ℕ) → l ≡ log_change c → b ≡ ref_log_byte l.mode → eqb b 1 ≡ is_log_only c

@@ -1,5 +1,6 @@
 -- The tests for equality mean equality: `..-true`, that the test holds of equals only, and `..-refl`, that it holds of each with itself.
 -- Assumes nothing.
+use Rattle.std.specs.Prelude.{Some}
 use Prim.Native.Nat.{ℕ}
 use mathlib.Core.Path.{◌≡◌, refl, sym, ◌∙◌}
 use mathlib.Core.Bool.{Bool, true, false, false≢true, ◌&&◌, beq}
@@ -9,7 +10,6 @@ use Rattle.target.proofs.Laws.{name_true, name_refl, same_true, same_refl, optio
 use Rattle.transaction.specs.declared.RefLog.{RefLog}
 use Rattle.transaction.specs.declared.LogChange.{LogChange}
 use Rattle.transaction.specs.declared.PreviousValue.{PreviousValue}
-use Rattle.transaction.specs.declared.OptionPrevious.TheVariants.{Previous}
 use Rattle.transaction.specs.declared.Change.{Change}
 use Rattle.transaction.specs.declared.Change.TheVariants.{Update, Delete}
 use Rattle.transaction.specs.declared.RefEdit.{RefEdit}
@@ -57,7 +57,7 @@ pub log_change_refl : (a : LogChange) → same_log_change a a ≡ true
 log_change_refl a = both _ _ (both _ _ (ref_log_refl a.mode) (flag_refl a.force_create_reflog)) (eq-eqb a.message a.message refl)
 
 pub previous_true : (a b : PreviousValue) → same_previous a b ≡ true → a ≡ b
-previous_true a b h = let e : Previous a ≡ Previous b = sym (previous_back a) ∙ from_two previous_of _ _ (eqb-true (previous_byte a) (previous_byte b)) (option_true (expected_target a) (expected_target b)) h ∙ previous_back b in cc
+previous_true a b h = let e : Some a ≡ Some b = sym (previous_back a) ∙ from_two previous_of _ _ (eqb-true (previous_byte a) (previous_byte b)) (option_true (expected_target a) (expected_target b)) h ∙ previous_back b in cc
 
 pub previous_refl : (a : PreviousValue) → same_previous a a ≡ true
 previous_refl a = both _ _ (eq-eqb (previous_byte a) (previous_byte a) refl) (option_refl (expected_target a))

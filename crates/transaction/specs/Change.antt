@@ -1,9 +1,7 @@
 -- What src/transaction/mod.rs answers of a change.
-use Rattle.std.specs.Prelude.{Bool, true, false, ℕ}
-use Rattle.target.specs.declared.OptionObject.{OptionObject}
-use Rattle.target.specs.declared.OptionObject.TheVariants.{NoId}
-use Rattle.target.specs.declared.OptionTarget.{OptionTarget}
-use Rattle.target.specs.declared.OptionTarget.TheVariants.{Absent, Present}
+use Rattle.target.specs.declared.ObjectNumber.{ObjectNumber}
+use Rattle.target.specs.declared.Target.{Target}
+use Rattle.std.specs.Prelude.{Bool, true, false, ℕ, Option, Some, None}
 use Rattle.target.specs.Target.{try_id}
 use Rattle.transaction.specs.declared.RefLog.{RefLog}
 use Rattle.transaction.specs.declared.RefLog.TheVariants.{AndReference, Only}
@@ -13,7 +11,6 @@ use Rattle.transaction.specs.declared.PreviousValue.TheVariants.{Any, MustExist,
 use Rattle.transaction.specs.declared.Change.{Change}
 use Rattle.transaction.specs.declared.Change.TheVariants.{Update, Delete}
 use Rattle.transaction.specs.declared.RefEdit.{RefEdit}
-use Rattle.transaction.specs.declared.ParentIndex.TheVariants.{NoParent}
 use Rattle.transaction.specs.declared.Edit.{Edit}
 
 -- a log change that asks for nothing: the reference and its log, no force, message 0
@@ -21,32 +18,32 @@ abbrev pub default_log : LogChange
 default_log = record { mode = AndReference; force_create_reflog = false; message = 0 }
 
 -- the target that stands with 3 and 4
-abbrev pub expected_target : PreviousValue → OptionTarget
-expected_target Any = Absent
-expected_target MustExist = Absent
-expected_target MustNotExist = Absent
-expected_target (MustExistAndMatch t) = Present t
-expected_target (ExistingMustMatch t) = Present t
+abbrev pub expected_target : PreviousValue → Option Target
+expected_target Any = None
+expected_target MustExist = None
+expected_target MustNotExist = None
+expected_target (MustExistAndMatch t) = Some t
+expected_target (ExistingMustMatch t) = Some t
 
 -- what an update sets; a deletion has none
-abbrev pub new_value : Change → OptionTarget
-new_value (Update log expected new) = Present new
-new_value (Delete expected log) = Absent
+abbrev pub new_value : Change → Option Target
+new_value (Update log expected new) = Some new
+new_value (Delete expected log) = None
 
 abbrev pub expected_of : Change → PreviousValue
 expected_of (Update log expected new) = expected
 expected_of (Delete expected log) = expected
 
 -- the previous observed value, of either kind of change
-abbrev pub previous_value : Change → OptionTarget
+abbrev pub previous_value : Change → Option Target
 previous_value c = expected_target (expected_of c)
 
 -- the previous observed value where it is an object (R5)
-abbrev pub id_of : OptionTarget → OptionObject
-id_of Absent = NoId
-id_of (Present t) = try_id t
+abbrev pub id_of : Option Target → Option ObjectNumber
+id_of None = None
+id_of (Some t) = try_id t
 
-abbrev pub previous_oid : Change → OptionObject
+abbrev pub previous_oid : Change → Option ObjectNumber
 previous_oid c = id_of (previous_value c)
 
 -- what a change says of its log: a deletion has no force and no message
@@ -75,16 +72,16 @@ is_delete (Update log expected new) = false
 is_delete (Delete expected log) = true
 
 -- of a prepared row, the existing value: expected 3 means that its target was there, anything else that nothing was
-abbrev pub matched : PreviousValue → OptionTarget
-matched Any = Absent
-matched MustExist = Absent
-matched MustNotExist = Absent
-matched (MustExistAndMatch t) = Present t
-matched (ExistingMustMatch t) = Absent
+abbrev pub matched : PreviousValue → Option Target
+matched Any = None
+matched MustExist = None
+matched MustNotExist = None
+matched (MustExistAndMatch t) = Some t
+matched (ExistingMustMatch t) = None
 
-abbrev pub existing_in : Change → OptionTarget
+abbrev pub existing_in : Change → Option Target
 existing_in c = matched (expected_of c)
 
 -- an edit's row as it begins: no parent, no leaf-previous
 abbrev pub row_of : RefEdit → Edit
-row_of e = record { update = e; parent_index = NoParent; leaf_referent_previous_oid = record { 0 = 0 } }
+row_of e = record { update = e; parent_index = None; leaf_referent_previous_oid = record { 0 = 0 } }

@@ -2,61 +2,55 @@
 // src/store/file/transaction/mod.rs that a store holds: the row (Edit) and PackedRefs.
 #![tactic(auto)]
 
-ghost use Rattle.std.specs.Prelude.{◌≡◌};
+ghost use Rattle.std.specs.Prelude.{◌≡◌, ok_or};
 ghost use Rattle.transaction.specs.Change.{new_value, previous_value, previous_oid, default_log, expected_target, row_of};
 ghost use Rattle.transaction.specs.Change.{expected_of, log_change, is_log_only, is_delete, matched, existing_in};
 ghost use Rattle.transaction.specs.Fields.{ref_log_byte, ref_log_of, previous_byte, previous_of, change_byte};
 ghost use Rattle.transaction.specs.Fields.{packed_refs_number, packed_refs_of};
-ghost use Rattle.transaction.specs.Same.{same_ref_log, same_log_change, same_previous, same_change, same_update, same_delete, same_ref_edit};
 
-use target::{NameNumber, ObjectNumber, OptionObject, OptionTarget, Target};
+use target::{NameNumber, NoSuchNumber, ObjectNumber, Target};
 
 // Whether an edit changes the reference and its log, or the log only.
-#[derive(Clone, Copy)]
+#[derive(Clone, Copy, PartialEq, Eq, Default)]
 pub enum RefLog {
+    #[default]
     AndReference,
     Only,
-}
-
-#[derive(Clone, Copy)]
-pub enum OptionRefLog {
-    NoRefLog,
-    RefLog(RefLog),
 }
 
 impl RefLog {
     pub const AND_REFERENCE: u64 = 0;
 
     pub const ONLY: u64 = 1;
+}
 
-    pub fn new(byte: u64) -> OptionRefLog
-        ensures { result ≡ ref_log_of byte }
-    {
+impl TryFrom<u64> for RefLog {
+    type Error = NoSuchNumber;
+
+    ghost try_from_gives = { λ byte log. log ≡ ok_or (ref_log_of byte) (record { 0 = byte }) };
+
+    fn try_from(byte: u64) -> Result<RefLog, NoSuchNumber> {
         match byte {
-            RefLog::AND_REFERENCE => OptionRefLog::RefLog(RefLog::AndReference),
-            RefLog::ONLY => OptionRefLog::RefLog(RefLog::Only),
-            _ => OptionRefLog::NoRefLog,
+            RefLog::AND_REFERENCE => Ok(RefLog::AndReference),
+            RefLog::ONLY => Ok(RefLog::Only),
+            _ => Err(NoSuchNumber(byte)),
         }
     }
+}
 
-    pub fn byte(self) -> u64
-        ensures { result ≡ ref_log_byte self }
-    {
-        match self {
+impl From<RefLog> for u64 {
+    ghost from_gives = { λ log byte. byte ≡ ref_log_byte log };
+
+    fn from(log: RefLog) -> u64 {
+        match log {
             RefLog::AndReference => RefLog::AND_REFERENCE,
             RefLog::Only => RefLog::ONLY,
         }
     }
-
-    pub fn eq(self, other: RefLog) -> bool
-        ensures { result ≡ same_ref_log self other }
-    {
-        self.byte() == other.byte()
-    }
 }
 
 // A change to a name's log.
-#[derive(Clone, Copy)]
+#[derive(Clone, Copy, PartialEq, Eq, Default)]
 pub struct LogChange {
     pub mode: RefLog,
     // Make a line even where the log setting alone would make none.
@@ -64,46 +58,14 @@ pub struct LogChange {
     pub message: u16,
 }
 
-impl LogChange {
-    pub fn default() -> LogChange
-        ensures { result ≡ default_log }
-    {
-        LogChange {
-            mode: RefLog::AndReference,
-            force_create_reflog: false,
-            message: 0,
-        }
-    }
-
-    pub fn eq(self, other: LogChange) -> bool
-        ensures { result ≡ same_log_change self other }
-    {
-        let lhs = self.mode;
-        let rhs = other.mode;
-        if !lhs.eq(rhs) {
-            return false;
-        }
-        if self.force_create_reflog != other.force_create_reflog {
-            return false;
-        }
-        self.message == other.message
-    }
-}
-
 // What an edit expects of the value that it replaces.
-#[derive(Clone, Copy)]
+#[derive(Clone, Copy, PartialEq, Eq)]
 pub enum PreviousValue {
     Any,
     MustExist,
     MustNotExist,
     MustExistAndMatch(Target),
     ExistingMustMatch(Target),
-}
-
-#[derive(Clone, Copy)]
-pub enum OptionPrevious {
-    NoPrevious,
-    Previous(PreviousValue),
 }
 
 impl PreviousValue {
@@ -118,26 +80,20 @@ impl PreviousValue {
     pub const EXISTING_MUST_MATCH: u64 = 4;
 
     // A target stands exactly with 3 and 4.
-    pub fn new(byte: u64, target: OptionTarget) -> OptionPrevious
+    pub fn new(byte: u64, target: Option<Target>) -> Option<PreviousValue>
         ensures { result ≡ previous_of byte target }
     {
         match target {
-            OptionTarget::Absent => match byte {
-                PreviousValue::ANY => OptionPrevious::Previous(PreviousValue::Any),
-                PreviousValue::MUST_EXIST => OptionPrevious::Previous(PreviousValue::MustExist),
-                PreviousValue::MUST_NOT_EXIST => OptionPrevious::Previous(
-                    PreviousValue::MustNotExist,
-                ),
-                _ => OptionPrevious::NoPrevious,
+            None => match byte {
+                PreviousValue::ANY => Some(PreviousValue::Any),
+                PreviousValue::MUST_EXIST => Some(PreviousValue::MustExist),
+                PreviousValue::MUST_NOT_EXIST => Some(PreviousValue::MustNotExist),
+                _ => None,
             },
-            OptionTarget::Present(t) => match byte {
-                PreviousValue::MUST_EXIST_AND_MATCH => OptionPrevious::Previous(
-                    PreviousValue::MustExistAndMatch(t),
-                ),
-                PreviousValue::EXISTING_MUST_MATCH => OptionPrevious::Previous(
-                    PreviousValue::ExistingMustMatch(t),
-                ),
-                _ => OptionPrevious::NoPrevious,
+            Some(t) => match byte {
+                PreviousValue::MUST_EXIST_AND_MATCH => Some(PreviousValue::MustExistAndMatch(t)),
+                PreviousValue::EXISTING_MUST_MATCH => Some(PreviousValue::ExistingMustMatch(t)),
+                _ => None,
             },
         }
     }
@@ -154,43 +110,28 @@ impl PreviousValue {
         }
     }
 
-    pub fn target(self) -> OptionTarget
+    pub fn target(self) -> Option<Target>
         ensures { result ≡ expected_target self }
     {
         match self {
-            PreviousValue::Any => OptionTarget::Absent,
-            PreviousValue::MustExist => OptionTarget::Absent,
-            PreviousValue::MustNotExist => OptionTarget::Absent,
-            PreviousValue::MustExistAndMatch(t) => OptionTarget::Present(t),
-            PreviousValue::ExistingMustMatch(t) => OptionTarget::Present(t),
+            PreviousValue::Any | PreviousValue::MustExist | PreviousValue::MustNotExist => None,
+            PreviousValue::MustExistAndMatch(t) | PreviousValue::ExistingMustMatch(t) => Some(t),
         }
     }
 
     // The target that a prepared row was judged to match, if it was: 3 has it, anything else found nothing.
-    pub fn matched(self) -> OptionTarget
+    pub fn matched(self) -> Option<Target>
         ensures { result ≡ matched self }
     {
         match self {
-            PreviousValue::Any => OptionTarget::Absent,
-            PreviousValue::MustExist => OptionTarget::Absent,
-            PreviousValue::MustNotExist => OptionTarget::Absent,
-            PreviousValue::MustExistAndMatch(t) => OptionTarget::Present(t),
-            PreviousValue::ExistingMustMatch(_) => OptionTarget::Absent,
+            PreviousValue::MustExistAndMatch(t) => Some(t),
+            _ => None,
         }
-    }
-
-    pub fn eq(self, other: PreviousValue) -> bool
-        ensures { result ≡ same_previous self other }
-    {
-        if self.byte() != other.byte() {
-            return false;
-        }
-        self.target().eq(other.target())
     }
 }
 
 // What an edit does to its name.
-#[derive(Clone, Copy)]
+#[derive(Clone, Copy, PartialEq, Eq)]
 pub enum Change {
     Update {
         log: LogChange,
@@ -212,32 +153,18 @@ impl Change {
         ensures { result ≡ change_byte self }
     {
         match self {
-            Change::Update {
-                log: _,
-                expected: _,
-                new: _,
-            } => Change::UPDATE,
-            Change::Delete {
-                expected: _,
-                log: _,
-            } => Change::DELETE,
+            Change::Update { .. } => Change::UPDATE,
+            Change::Delete { .. } => Change::DELETE,
         }
     }
 
     // The value that the name has after the change, if this is an update.
-    pub fn new_value(self) -> OptionTarget
+    pub fn new_value(self) -> Option<Target>
         ensures { result ≡ new_value self }
     {
         match self {
-            Change::Update {
-                log: _,
-                expected: _,
-                new,
-            } => OptionTarget::Present(new),
-            Change::Delete {
-                expected: _,
-                log: _,
-            } => OptionTarget::Absent,
+            Change::Update { new, .. } => Some(new),
+            Change::Delete { .. } => None,
         }
     }
 
@@ -245,24 +172,19 @@ impl Change {
         ensures { result ≡ expected_of self }
     {
         match self {
-            Change::Update {
-                log: _,
-                expected,
-                new: _,
-            } => expected,
-            Change::Delete { expected, log: _ } => expected,
+            Change::Update { expected, .. } | Change::Delete { expected, .. } => expected,
         }
     }
 
     // The previous observed value: the target that is expected with 3 and 4.
-    pub fn previous_value(self) -> OptionTarget
+    pub fn previous_value(self) -> Option<Target>
         ensures { result ≡ previous_value self }
     {
         self.expected().target()
     }
 
     // Of a prepared row, the value that it found.
-    pub fn existing(self) -> OptionTarget
+    pub fn existing(self) -> Option<Target>
         ensures { result ≡ existing_in self }
     {
         self.expected().matched()
@@ -273,15 +195,10 @@ impl Change {
         ensures { result ≡ log_change self }
     {
         match self {
-            Change::Update {
-                log,
-                expected: _,
-                new: _,
-            } => log,
-            Change::Delete { expected: _, log } => LogChange {
+            Change::Update { log, .. } => log,
+            Change::Delete { log, .. } => LogChange {
                 mode: log,
-                force_create_reflog: false,
-                message: 0,
+                ..LogChange::default()
             },
         }
     }
@@ -289,87 +206,28 @@ impl Change {
     pub fn is_log_only(self) -> bool
         ensures { result ≡ is_log_only self }
     {
-        let log = self.log();
-        let mode = log.mode;
-        mode.byte() == RefLog::ONLY
+        self.log().mode == RefLog::Only
     }
 
     pub fn is_delete(self) -> bool
         ensures { result ≡ is_delete self }
     {
-        self.byte() == Change::DELETE
+        matches!(self, Change::Delete { .. })
     }
 
     // The previous observed value where it is an object: what R5 hands to the ancestors.
-    pub fn previous_oid(self) -> OptionObject
+    pub fn previous_oid(self) -> Option<ObjectNumber>
         ensures { result ≡ previous_oid self }
     {
-        let OptionTarget::Present(previous) = self.previous_value() else {
-            return OptionObject::NoId;
+        let Some(previous) = self.previous_value() else {
+            return None;
         };
         previous.try_id()
     }
-
-    pub fn eq(self, other: Change) -> bool
-        ensures { result ≡ same_change self other }
-    {
-        match self {
-            Change::Update { log, expected, new } => match other {
-                Change::Update {
-                    log: log2,
-                    expected: expected2,
-                    new: new2,
-                } => same_update(log, expected, new, log2, expected2, new2),
-                Change::Delete {
-                    expected: _,
-                    log: _,
-                } => false,
-            },
-            Change::Delete { expected, log } => match other {
-                Change::Update {
-                    log: _,
-                    expected: _,
-                    new: _,
-                } => false,
-                Change::Delete {
-                    expected: expected2,
-                    log: log2,
-                } => same_delete(expected, log, expected2, log2),
-            },
-        }
-    }
-}
-
-fn same_update(
-    log: LogChange,
-    expected: PreviousValue,
-    new: Target,
-    log2: LogChange,
-    expected2: PreviousValue,
-    new2: Target,
-) -> bool
-    ensures { result ≡ same_update log expected new log2 expected2 new2 }
-{
-    if !log.eq(log2) {
-        return false;
-    }
-    if !expected.eq(expected2) {
-        return false;
-    }
-    new.eq(new2)
-}
-
-fn same_delete(expected: PreviousValue, log: RefLog, expected2: PreviousValue, log2: RefLog) -> bool
-    ensures { result ≡ same_delete expected log expected2 log2 }
-{
-    if !expected.eq(expected2) {
-        return false;
-    }
-    log.eq(log2)
 }
 
 // A change to a name. With `deref` it is made through the name's symbolic links.
-#[derive(Clone, Copy)]
+#[derive(Clone, Copy, PartialEq, Eq)]
 pub struct RefEdit {
     pub change: Change,
     pub name: NameNumber,
@@ -386,42 +244,19 @@ impl RefEdit {
         ensures { result ≡ record { change = change; name = name; deref = deref } }
     {
         RefEdit {
-            change: change,
-            name: name,
-            deref: deref,
+            change,
+            name,
+            deref,
         }
     }
-
-    pub fn eq(self, other: RefEdit) -> bool
-        ensures { result ≡ same_ref_edit self other }
-    {
-        let lhs = self.change;
-        let rhs = other.change;
-        if !lhs.eq(rhs) {
-            return false;
-        }
-        let name = self.name;
-        let name2 = other.name;
-        if !name.eq(name2) {
-            return false;
-        }
-        self.deref == other.deref
-    }
-}
-
-// The place of the row that a row was split from.
-#[derive(Clone, Copy)]
-pub enum ParentIndex {
-    NoParent,
-    Parent(usize),
 }
 
 // A row of a prepared transaction.
-#[derive(Clone, Copy)]
+#[derive(Clone, Copy, PartialEq, Eq)]
 pub struct Edit {
     pub update: RefEdit,
     // The row that this one was split from, where its name was reached through a symbolic link.
-    pub parent_index: ParentIndex,
+    pub parent_index: Option<usize>,
     // Of a symbolic ref: the previous object of the leaf that it leads to, for its log. 0 is none.
     pub leaf_referent_previous_oid: ObjectNumber,
 }
@@ -437,25 +272,19 @@ impl Edit {
         ensures { result ≡ row_of update }
     {
         Edit {
-            update: update,
-            parent_index: ParentIndex::NoParent,
+            update,
+            parent_index: None,
             leaf_referent_previous_oid: ObjectNumber::null(),
         }
     }
 }
 
 // How a transaction treats the packed table.
-#[derive(Clone, Copy)]
+#[derive(Clone, Copy, PartialEq, Eq)]
 pub enum PackedRefs {
     DeletionsOnly,
     DeletionsAndNonSymbolicUpdates,
     DeletionsAndNonSymbolicUpdatesRemoveLooseSourceReference,
-}
-
-#[derive(Clone, Copy)]
-pub enum OptionPackedRefs {
-    NoMode,
-    Mode(PackedRefs),
 }
 
 impl PackedRefs {
@@ -464,27 +293,32 @@ impl PackedRefs {
     pub const DELETIONS_AND_NON_SYMBOLIC_UPDATES: u64 = 2;
 
     pub const DELETIONS_AND_NON_SYMBOLIC_UPDATES_REMOVE_LOOSE_SOURCE_REFERENCE: u64 = 3;
+}
 
-    pub fn new(number: u64) -> OptionPackedRefs
-        ensures { result ≡ packed_refs_of number }
-    {
+impl TryFrom<u64> for PackedRefs {
+    type Error = NoSuchNumber;
+
+    ghost try_from_gives = { λ number mode. mode ≡ ok_or (packed_refs_of number) (record { 0 = number }) };
+
+    fn try_from(number: u64) -> Result<PackedRefs, NoSuchNumber> {
         match number {
-            PackedRefs::DELETIONS_ONLY => OptionPackedRefs::Mode(PackedRefs::DeletionsOnly),
-            PackedRefs::DELETIONS_AND_NON_SYMBOLIC_UPDATES => OptionPackedRefs::Mode(
+            PackedRefs::DELETIONS_ONLY => Ok(PackedRefs::DeletionsOnly),
+            PackedRefs::DELETIONS_AND_NON_SYMBOLIC_UPDATES => Ok(
                 PackedRefs::DeletionsAndNonSymbolicUpdates,
             ),
-            PackedRefs::DELETIONS_AND_NON_SYMBOLIC_UPDATES_REMOVE_LOOSE_SOURCE_REFERENCE =>
-                OptionPackedRefs::Mode(
-                    PackedRefs::DeletionsAndNonSymbolicUpdatesRemoveLooseSourceReference,
-                ),
-            _ => OptionPackedRefs::NoMode,
+            PackedRefs::DELETIONS_AND_NON_SYMBOLIC_UPDATES_REMOVE_LOOSE_SOURCE_REFERENCE => Ok(
+                PackedRefs::DeletionsAndNonSymbolicUpdatesRemoveLooseSourceReference,
+            ),
+            _ => Err(NoSuchNumber(number)),
         }
     }
+}
 
-    pub fn number(self) -> u64
-        ensures { result ≡ packed_refs_number self }
-    {
-        match self {
+impl From<PackedRefs> for u64 {
+    ghost from_gives = { λ mode number. number ≡ packed_refs_number mode };
+
+    fn from(mode: PackedRefs) -> u64 {
+        match mode {
             PackedRefs::DeletionsOnly => PackedRefs::DELETIONS_ONLY,
             PackedRefs::DeletionsAndNonSymbolicUpdates =>
                 PackedRefs::DELETIONS_AND_NON_SYMBOLIC_UPDATES,

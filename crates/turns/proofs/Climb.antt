@@ -1,4 +1,6 @@
 -- The turns keep every parent: rows alike have the same climb, and what a turn leaves is alike. Assumes nothing.
+use Rattle.std.specs.Prelude.{Option, Some, None}
+use Rattle.target.specs.declared.Target.{Target}
 use mathlib.Core.Path.{◌≡◌, refl, sym, ap, subst, ◌∙◌}
 use mathlib.Core.Bool.{Bool, true}
 use mathlib.Core.List.{List, [], ◌∷◌, map}
@@ -6,14 +8,8 @@ use Prim.Native.Nat.{ℕ, ◌<◌}
 use lib.ListN.{length, set}
 use lib.Seq.{map-set_same}
 use Rattle.target.specs.declared.ObjectNumber.{ObjectNumber}
-use Rattle.target.specs.declared.OptionTarget.{OptionTarget}
-use Rattle.target.specs.declared.OptionTarget.TheVariants.{Absent, Present}
-use Rattle.target.specs.declared.OptionObject.{OptionObject}
-use Rattle.target.specs.declared.OptionObject.TheVariants.{NoId, Id}
 use Rattle.transaction.specs.declared.Change.{Change}
 use Rattle.transaction.specs.declared.Change.TheVariants.{Update, Delete}
-use Rattle.transaction.specs.declared.ParentIndex.{ParentIndex}
-use Rattle.transaction.specs.declared.ParentIndex.TheVariants.{NoParent, Parent}
 use Rattle.transaction.specs.declared.Edit.{Edit}
 use Rattle.transaction.specs.Change.{previous_oid}
 use Rattle.model.specs.Store.{Store, no_row}
@@ -29,7 +25,7 @@ pub upward_alike : (rows rows' : List Edit) → Alike rows' rows → Upward (len
 upward_alike rows rows' e w =
     record {
       up =
-          λ i h. subst (λ (p : ParentIndex). fine_parent i p ≡ true)
+          λ i h. subst (λ (p : Option ℕ). fine_parent i p ≡ true)
           (sym (alike_at rows' rows e (λ (r : Edit). r.parent_index) (λ r. refl) i))
           (w.up i (rw (← alike_length rows' rows e) h));
     }
@@ -37,12 +33,12 @@ upward_alike rows rows' e w =
 leaf_alike : (rows : List Edit) (p : ℕ) (o : ObjectNumber) → Alike (set rows p (with_leaf o (row_at rows p))) rows
 leaf_alike rows p o = map-set_same plain rows p (with_leaf o (row_at rows p)) no_row refl
 
-unexpecting_observing : (c : Change) (x : OptionTarget) → unexpecting (observing c x) ≡ unexpecting c
-unexpecting_observing c Absent = refl
-unexpecting_observing (Update log expected new) (Present t) = refl
-unexpecting_observing (Delete expected log) (Present t) = refl
+unexpecting_observing : (c : Change) (x : Option Target) → unexpecting (observing c x) ≡ unexpecting c
+unexpecting_observing c None = refl
+unexpecting_observing (Update log expected new) (Some t) = refl
+unexpecting_observing (Delete expected log) (Some t) = refl
 
-observed_alike : (rows : List Edit) (i : ℕ) (x : OptionTarget) → Alike (set rows i (observed (row_at rows i) x)) rows
+observed_alike : (rows : List Edit) (i : ℕ) (x : Option Target) → Alike (set rows i (observed (row_at rows i) x)) rows
 observed_alike rows i x =
     map-set_same plain rows i (observed (row_at rows i) x) no_row (rw (unexpecting_observing (change_in (row_at rows i)) x))
 
@@ -53,12 +49,12 @@ handed_alike (p ∷ ps) o rows = handed_alike ps o (set rows p (with_leaf o (row
 pub turned_alike : (s : Store) (opened : Bool) (rows : List Edit) (i : ℕ) → Alike (turned s opened rows i) rows
 unfolding turned
 turned_alike s opened rows i =
-    let x : OptionTarget = existing s opened (row_at rows i) in
+    let x : (Option Target) = existing s opened (row_at rows i) in
     on (previous_oid (change_in (observed (row_at rows i) x))) (set rows i (observed (row_at rows i) x)) ∙ observed_alike rows i x
   where
-    on : (y : OptionObject) (l : List Edit) → Alike (handed_on y (ancestors rows i) l) l
-    on NoId l = refl
-    on (Id o) l = handed_alike (ancestors rows i) o l
+    on : (y : Option ObjectNumber) (l : List Edit) → Alike (handed_on y (ancestors rows i) l) l
+    on None l = refl
+    on (Some o) l = handed_alike (ancestors rows i) o l
 
 -- ---- handing up, one parent at a time
 
@@ -67,10 +63,10 @@ pub leaf_upward : (rows : List Edit) (p : ℕ) (o : ObjectNumber) → Upward (le
 leaf_upward rows p o w = upward_alike rows (set rows p (with_leaf o (row_at rows p))) (leaf_alike rows p o) w
 
 module _ (rows : List Edit) (i : ℕ) (o : ObjectNumber) where
-  pub hand_none : parent_at rows i ≡ NoParent → rows ≡ handed_to (ancestors rows i) o rows
+  pub hand_none : parent_at rows i ≡ None → rows ≡ handed_to (ancestors rows i) o rows
   hand_none e = ap (λ (ps : List ℕ). handed_to ps o rows) (sym (ancestors_none rows i e))
 
-  pub hand_up : Upward (length rows) rows → i < length rows → (p : ℕ) → parent_at rows i ≡ Parent p
+  pub hand_up : Upward (length rows) rows → i < length rows → (p : ℕ) → parent_at rows i ≡ Some p
       → handed_to (ancestors (set rows p (with_leaf o (row_at rows p))) p) o (set rows p (with_leaf o (row_at rows p))) ≡ handed_to (ancestors rows i) o rows
   hand_up w h p e =
       let next : List Edit = set rows p (with_leaf o (row_at rows p)) in
@@ -87,16 +83,16 @@ module _ (s : Store) (opened : Bool) (rows : List Edit) (i : ℕ) (kept : Edit) 
   kept_upward w = upward_alike rows (set rows i kept) kept_alike w
 
   -- what is handed on of the row kept is what the turn hands on
-  kept_handed : (y : OptionObject) → previous_oid (change_in kept) ≡ y → handed_on y (ancestors rows i) (set rows i kept) ≡ turned s opened rows i
+  kept_handed : (y : Option ObjectNumber) → previous_oid (change_in kept) ≡ y → handed_on y (ancestors rows i) (set rows i kept) ≡ turned s opened rows i
   unfolding turned
   kept_handed y ey =
-      ap (λ (y : OptionObject). handed_on y (ancestors rows i) (set rows i kept)) (sym ey)
+      ap (λ (y : Option ObjectNumber). handed_on y (ancestors rows i) (set rows i kept)) (sym ey)
       ∙ ap (λ (r : Edit). handed_on (previous_oid (change_in r)) (ancestors rows i) (set rows i r)) e
 
-  pub turned_none : previous_oid (change_in kept) ≡ NoId → set rows i kept ≡ turned s opened rows i
-  turned_none ey = kept_handed NoId ey
+  pub turned_none : previous_oid (change_in kept) ≡ None → set rows i kept ≡ turned s opened rows i
+  turned_none ey = kept_handed None ey
 
-  pub turned_handed : (o : ObjectNumber) → previous_oid (change_in kept) ≡ Id o
+  pub turned_handed : (o : ObjectNumber) → previous_oid (change_in kept) ≡ Some o
       → handed_to (ancestors (set rows i kept) i) o (set rows i kept) ≡ turned s opened rows i
   turned_handed o ey =
-      ap (λ (ps : List ℕ). handed_to ps o (set rows i kept)) (alike_ancestors (set rows i kept) rows kept_alike i) ∙ kept_handed (Id o) ey
+      ap (λ (ps : List ℕ). handed_to ps o (set rows i kept)) (alike_ancestors (set rows i kept) rows kept_alike i) ∙ kept_handed (Some o) ey

@@ -1,8 +1,9 @@
 -- What a turn asks of a store does not depend on the rows in it, and turns that pass leave rows alike. Assumes nothing.
+use Rattle.std.specs.Prelude.{Option, Result, Ok, Err}
+use Rattle.model.specs.declared.Refusal.{Refusal}
 use mathlib.Core.Path.{◌≡◌, refl, sym, ap, ◌∙◌}
 use mathlib.Core.Bool.{Bool}
 use mathlib.Core.List.{List, map}
-use mathlib.Core.Option.{Option}
 use Prim.Native.Nat.{ℕ, zero, suc, ◌+◌}
 use lib.ListN.{length}
 use Rattle.transaction.specs.declared.PackedRefs.{PackedRefs}
@@ -10,8 +11,7 @@ use Rattle.transaction.specs.declared.Edit.{Edit}
 use Rattle.model.specs.Store.{Store, Prepared, with_prepared}
 use Rattle.model.specs.Rows.{is_direct}
 use Rattle.model.specs.Beneath.{loose_above, loose_beneath, would_write, meets_earlier, conflicts}
-use Rattle.model.specs.Outcome.{Outcome, ◌>>=◌}
-use Rattle.model.specs.Outcome.Outcome.{refuse, pass}
+use Rattle.model.specs.Outcome.{◌>>=◌}
 use Rattle.model.specs.Fine.{Upward}
 use Rattle.model.specs.Prepare.{lock_test, existing, turn_tests, first_refusal, turned, turn, turns_from}
 use Rattle.model.proofs.Binds.{pass_then, pass_is}
@@ -36,31 +36,31 @@ module _ (s : Store) (q : Option Prepared) where
     unfolding turns_from
     same_turns zero i rows = refl
     same_turns (suc k) i rows =
-        ap (λ (o : Outcome (List Edit)). o >>= λ next. turns_from (with_prepared s q) mode opened k (i + 1) next) (same_turn rows i)
+        ap (λ (o : Result (List Edit) Refusal). o >>= λ next. turns_from (with_prepared s q) mode opened k (i + 1) next) (same_turn rows i)
         ∙ go (turn s mode opened rows i) (same_turns k (i + 1))
       where
-        go : (o : Outcome (List Edit))
+        go : (o : Result (List Edit) Refusal)
             → ((next : List Edit) → turns_from (with_prepared s q) mode opened k (i + 1) next ≡ turns_from s mode opened k (i + 1) next)
             → (o >>= λ next. turns_from (with_prepared s q) mode opened k (i + 1) next) ≡ (o >>= λ next. turns_from s mode opened k (i + 1) next)
-        go (refuse r) f = refl
-        go (pass next) f = f next
+        go (Err r) f = refl
+        go (Ok next) f = f next
 
 -- ---- of rows that passed
 
 module _ (s : Store) (mode : PackedRefs) (opened : Bool) where
-  pub turn_alike : (i : ℕ) (rows next : List Edit) → turn s mode opened rows i ≡ pass next → Alike next rows
+  pub turn_alike : (i : ℕ) (rows next : List Edit) → turn s mode opened rows i ≡ Ok next → Alike next rows
   unfolding turn
   turn_alike i rows next e =
       pass_then (first_refusal (turn_tests s mode opened rows i)) _ next e λ _ _ h.
       ap (map plain) (sym (pass_is h)) ∙ turned_alike s opened rows i
 
-  pub turns_alike : (k i : ℕ) (rows last : List Edit) → turns_from s mode opened k i rows ≡ pass last → Alike last rows
+  pub turns_alike : (k i : ℕ) (rows last : List Edit) → turns_from s mode opened k i rows ≡ Ok last → Alike last rows
   unfolding turns_from
   turns_alike zero i rows last e = ap (map plain) (sym (pass_is e))
   turns_alike (suc k) i rows last e =
       pass_then (turn s mode opened rows i) _ last e λ next p h. turns_alike k (i + 1) next last h ∙ turn_alike i rows next p
 
-  module _ (k i : ℕ) (rows last : List Edit) (e : turns_from s mode opened k i rows ≡ pass last) where
+  module _ (k i : ℕ) (rows last : List Edit) (e : turns_from s mode opened k i rows ≡ Ok last) where
     pub turns_length : length last ≡ length rows
     turns_length = alike_length last rows (turns_alike k i rows last e)
 

@@ -1,19 +1,15 @@
 -- What a turn writes into a region: rows that fit their slots, those of the ancestors one parent at a time. Assumes nothing.
+use Rattle.std.specs.Prelude.{Option, Some, None}
+use Rattle.target.specs.declared.Target.{Target}
 use mathlib.Core.Path.{◌≡◌, refl, sym, ap, subst, ◌∙◌}
 use mathlib.Core.Bool.{Bool}
 use mathlib.Core.List.{List}
-use mathlib.Core.Option.{Option, none, some}
 use Prim.Native.Nat.{ℕ, ◌<◌, ◌^◌}
 use native.Mathlib.Omega.{arith}
 use lib.ListN.{length, set, length-set}
 use Rattle.target.specs.declared.ObjectNumber.{ObjectNumber}
-use Rattle.target.specs.declared.OptionTarget.{OptionTarget}
-use Rattle.target.specs.declared.OptionTarget.TheVariants.{Absent, Present}
-use Rattle.target.specs.declared.OptionObject.TheVariants.{NoId, Id}
 use Rattle.transaction.specs.declared.Change.{Change}
 use Rattle.transaction.specs.declared.Change.TheVariants.{Update, Delete}
-use Rattle.transaction.specs.declared.ParentIndex.{ParentIndex}
-use Rattle.transaction.specs.declared.ParentIndex.TheVariants.{NoParent, Parent}
 use Rattle.transaction.specs.declared.Edit.{Edit}
 use Rattle.transaction.specs.Change.{message_of, new_value, previous_value, previous_oid}
 use Rattle.model.specs.Store.{Store, Prepared, rows_in, rows_as, with_prepared, with_rows}
@@ -32,8 +28,8 @@ use Rattle.turns.proofs.Climb.{leaf_upward, hand_none, hand_up, kept_upward, tur
 
 -- there is a row, so the store is prepared
 rows_as_lem : (l : List Edit) (q : Option Prepared) (i : ℕ) → i < length (rows_in q) → rows_in (rows_as l q) ≡ l
-rows_as_lem l none i h = absurd (omega arith)
-rows_as_lem l (some p) i h = refl
+rows_as_lem l None i h = absurd (omega arith)
+rows_as_lem l (Some p) i h = refl
 
 module _ (r r' : List ℕ) (i : ℕ) (l : List Edit) (h : i < length (rows_in (view r).prepared)) (b : Became r' (with_rows (view r) l)) where
   pub rows_seen : rows_in (view r').prepared ≡ l
@@ -58,25 +54,25 @@ fits_at r l i x h e = subst FitsRow (sym e) ((laid_image r l).1.row i h)
 
 -- ---- handing up
 
-parent_here : (rows : List Edit) (i : ℕ) (x : Edit) (p : ParentIndex) → x ≡ row_at rows i → x.parent_index ≡ p → parent_at rows i ≡ p
+parent_here : (rows : List Edit) (i : ℕ) (x : Edit) (p : Option ℕ) → x ≡ row_at rows i → x.parent_index ≡ p → parent_at rows i ≡ p
 parent_here rows i x p e h = ap (λ (r : Edit). r.parent_index) (sym e) ∙ h
 
-pub up_none : (r : List ℕ) (i : ℕ) (x : Edit) (o : ObjectNumber) → Laid r → x ≡ row_at (rows_in (view r).prepared) i → x.parent_index ≡ NoParent
+pub up_none : (r : List ℕ) (i : ℕ) (x : Edit) (o : ObjectNumber) → Laid r → x ≡ row_at (rows_in (view r).prepared) i → x.parent_index ≡ None
     → Became r (with_rows (view r) (handed_to (ancestors (rows_in (view r).prepared) i) o (rows_in (view r).prepared)))
 up_none r i x o l e h =
-    record { laid = l; seen = own_rows (view r) ∙ ap (with_rows (view r)) (hand_none (rows_of r) i o (parent_here (rows_of r) i x NoParent e h)) }
+    record { laid = l; seen = own_rows (view r) ∙ ap (with_rows (view r)) (hand_none (rows_of r) i o (parent_here (rows_of r) i x None e h)) }
 
 -- the row at place i has the parent p
 pub record Under (r : List ℕ) (i p : ℕ) : Type 0 where
   pub laid : Laid r
   pub there : i < length (rows_in (view r).prepared)
   pub upward : Upward (length (rows_in (view r).prepared)) (rows_in (view r).prepared)
-  pub parent : parent_at (rows_in (view r).prepared) i ≡ Parent p
+  pub parent : parent_at (rows_in (view r).prepared) i ≡ Some p
 
 pub under : (r : List ℕ) (i p : ℕ) (x : Edit) → Laid r → i < length (rows_in (view r).prepared)
     → Upward (length (rows_in (view r).prepared)) (rows_in (view r).prepared) → x ≡ row_at (rows_in (view r).prepared) i
-    → x.parent_index ≡ Parent p → Under r i p
-under r i p x l h w e k = record { laid = l; there = h; upward = w; parent = parent_here (rows_of r) i x (Parent p) e k }
+    → x.parent_index ≡ Some p → Under r i p
+under r i p x l h w e k = record { laid = l; there = h; upward = w; parent = parent_here (rows_of r) i x (Some p) e k }
 
 -- a row that is there fits with another leaf-previous
 pub leaf_fits : (r : List ℕ) (i : ℕ) (o : ObjectNumber) (y up : Edit) → Laid r → i < length (rows_in (view r).prepared)
@@ -123,25 +119,25 @@ module _ {r : List ℕ} {i p : ℕ} (u : Under r i p) where
 
 -- ---- an existing value fits
 
-observing_was : (c : Change) (x : OptionTarget) → FitsOption (previous_value c) → FitsOption x → FitsOption (previous_value (observing c x))
-observing_was c Absent f g = f
-observing_was (Update log expected new) (Present t) f g = g
-observing_was (Delete expected log) (Present t) f g = g
+observing_was : (c : Change) (x : Option Target) → FitsOption (previous_value c) → FitsOption x → FitsOption (previous_value (observing c x))
+observing_was c None f g = f
+observing_was (Update log expected new) (Some t) f g = g
+observing_was (Delete expected log) (Some t) f g = g
 
-observing_new : (c : Change) (x : OptionTarget) → new_value (observing c x) ≡ new_value c
-observing_new c Absent = refl
-observing_new (Update log expected new) (Present t) = refl
-observing_new (Delete expected log) (Present t) = refl
+observing_new : (c : Change) (x : Option Target) → new_value (observing c x) ≡ new_value c
+observing_new c None = refl
+observing_new (Update log expected new) (Some t) = refl
+observing_new (Delete expected log) (Some t) = refl
 
-observing_message : (c : Change) (x : OptionTarget) → message_of (observing c x) ≡ message_of c
-observing_message c Absent = refl
-observing_message (Update log expected new) (Present t) = refl
-observing_message (Delete expected log) (Present t) = refl
+observing_message : (c : Change) (x : Option Target) → message_of (observing c x) ≡ message_of c
+observing_message c None = refl
+observing_message (Update log expected new) (Some t) = refl
+observing_message (Delete expected log) (Some t) = refl
 
 -- ---- the turn
 
 -- row is the row at place i, x the existing value, kept the row with it
-module _ (r : List ℕ) (i : ℕ) (opened : Bool) (row : Edit) (x : OptionTarget) (kept : Edit) (er : row ≡ row_at (rows_in (view r).prepared) i)
+module _ (r : List ℕ) (i : ℕ) (opened : Bool) (row : Edit) (x : Option Target) (kept : Edit) (er : row ≡ row_at (rows_in (view r).prepared) i)
     (ex : x ≡ existing (view r) opened row) (ek : kept ≡ observed row x) where
   pub kept_fits : Laid r → i < length (rows_in (view r).prepared) → FitsRow kept
   kept_fits l h =
@@ -169,7 +165,7 @@ module _ (r : List ℕ) (i : ℕ) (opened : Bool) (row : Edit) (x : OptionTarget
 module _ (r : List ℕ) (i : ℕ) (h : i < length (rows_in (view r).prepared)) (opened : Bool) (kept : Edit)
     (e : kept ≡ observed (row_at (rows_in (view r).prepared) i) (existing (view r) opened (row_at (rows_in (view r).prepared) i)))
     (r₁ : List ℕ) (b : Became r₁ (with_rows (view r) (set (rows_in (view r).prepared) i kept))) where
-  pub turn_none : previous_oid (change_in kept) ≡ NoId → Became r₁ (with_rows (view r) (turned (view r) opened (rows_in (view r).prepared) i))
+  pub turn_none : previous_oid (change_in kept) ≡ None → Became r₁ (with_rows (view r) (turned (view r) opened (rows_in (view r).prepared) i))
   turn_none ey = subst (λ (k : List Edit). Became r₁ (with_rows (view r) k)) (turned_none (view r) opened (rows_of r) i kept e ey) b
 
   pub turn_still : i < length (rows_in (view r₁).prepared)
@@ -182,7 +178,7 @@ module _ (r : List ℕ) (i : ℕ) (h : i < length (rows_in (view r).prepared)) (
   turn_upward w =
       subst (λ (k : List Edit). Upward (length k) k) (sym (rows_seen r r₁ i _ h b)) (kept_upward (view r) opened (rows_of r) i kept e w)
 
-  pub turn_handed : (o : ObjectNumber) (r₂ : List ℕ) → previous_oid (change_in kept) ≡ Id o
+  pub turn_handed : (o : ObjectNumber) (r₂ : List ℕ) → previous_oid (change_in kept) ≡ Some o
       → Became r₂ (with_rows (view r₁) (handed_to (ancestors (rows_in (view r₁).prepared) i) o (rows_in (view r₁).prepared)))
       → Became r₂ (with_rows (view r) (turned (view r) opened (rows_in (view r).prepared) i))
   turn_handed o r₂ ey c =

@@ -1,29 +1,23 @@
--- A row's turn as the definitions have it: who holds the lock, the topmost ancestor, the tests, and the turns one by one up to
--- the first refusal. Assumes nothing.
+-- A row's turn as the definitions have it: the topmost ancestor, the tests, and the turns one by one up to the first refusal. Assumes nothing.
+use Rattle.std.specs.Prelude.{Option, Some, None, Result, Ok, Err}
+use Rattle.target.specs.declared.Target.{Target}
 use mathlib.Core.Path.{◌≡◌, refl, sym, ap, ◌∙◌}
 use mathlib.Core.Bool.{Bool, true, false}
 use mathlib.Core.List.{List, [], ◌∷◌}
 use Prim.Native.Nat.{ℕ, suc, ◌+◌, ◌-◌, ◌<◌, ◌≤◌}
 use native.Mathlib.Omega.{arith}
-use lib.ListN.{length, get_or-eq_default}
+use lib.ListN.{length}
 use Rattle.target.specs.declared.NameNumber.{NameNumber}
-use Rattle.target.specs.declared.OptionTarget.{OptionTarget}
-use Rattle.transaction.specs.declared.ParentIndex.{ParentIndex}
-use Rattle.transaction.specs.declared.ParentIndex.TheVariants.{NoParent, Parent}
 use Rattle.transaction.specs.declared.PackedRefs.{PackedRefs}
 use Rattle.transaction.specs.declared.Edit.{Edit}
-use Rattle.model.specs.declared.Judged.{Judged}
-use Rattle.model.specs.declared.Judged.TheVariants.{Passed, Refused}
-use Rattle.model.specs.declared.Lock.{Lock}
 use Rattle.model.specs.declared.Lock.TheVariants.{Foreign}
 use Rattle.model.specs.declared.Refusal.{Refusal}
 use Rattle.model.specs.declared.Refusal.TheVariants.{LockAcquire, NameConflict}
 use Rattle.model.specs.Basic.{last_or}
-use Rattle.model.specs.Store.{Store, Entry, no_entry, count, entry_of, rows_in, is_lock, with_prepared, with_rows}
+use Rattle.model.specs.Store.{Store, entry_of, rows_in, is_lock, with_prepared, with_rows}
 use Rattle.model.specs.Rows.{name_in, change_in, row_at, topmost}
 use Rattle.model.specs.Beneath.{conflicts}
-use Rattle.model.specs.Outcome.{Outcome, ◌>>=◌, ◌>>◌}
-use Rattle.model.specs.Outcome.Outcome.{refuse, pass}
+use Rattle.model.specs.Outcome.{◌>>=◌, ◌>>◌}
 use Rattle.model.specs.Judge.{judge}
 use Rattle.model.specs.Fine.{Upward}
 use Rattle.model.specs.Prepare.{existing, turn_tests, first_refusal, turned, turn, turns_from}
@@ -37,95 +31,84 @@ use Rattle.writers.proofs.OtherRows.{as_as, own_rows}
 use Rattle.turns.proofs.Turned.{rows_seen}
 use Rattle.turns.proofs.Same.{same_turn, turn_alike}
 
--- ---- who holds the lock
-
-module _ (s : Store) (name : NameNumber) where
-  pub held_none : (n m : ℕ) → n ≡ name.0 → m ≡ count s → m ≤ n → false ≡ is_lock Foreign (entry_of s name).lock
-  held_none n m en e l =
-      let b : count s ≤ name.0 = omega arith in
-      sym (ap (λ (x : Entry). is_lock Foreign x.lock) (get_or-eq_default s.entries no_entry b))
-
-  pub held_at : (l : Lock) (r : Bool) → l ≡ (entry_of s name).lock → r ≡ is_lock Foreign l → r ≡ is_lock Foreign (entry_of s name).lock
-  held_at l r e h = h ∙ ap (is_lock Foreign) e
-
 -- ---- the topmost ancestor
 
 module _ (rows : List Edit) (i : ℕ) (x : Edit) (ex : x ≡ row_at rows i) where
-  parent_here : (p : ParentIndex) → x.parent_index ≡ p → parent_at rows i ≡ p
+  parent_here : (p : Option ℕ) → x.parent_index ≡ p → parent_at rows i ≡ p
   parent_here p e = ap (λ (r : Edit). r.parent_index) (sym ex) ∙ e
 
-  pub top_none : x.parent_index ≡ NoParent → x.update.name ≡ topmost rows i
+  pub top_none : x.parent_index ≡ None → x.update.name ≡ topmost rows i
   unfolding topmost
   top_none e =
-      ap name_in ex ∙ ap (λ (ps : List ℕ). name_in (row_at rows (last_or i ps))) (sym (ancestors_none rows i (parent_here NoParent e)))
+      ap name_in ex ∙ ap (λ (ps : List ℕ). name_in (row_at rows (last_or i ps))) (sym (ancestors_none rows i (parent_here None e)))
 
-  module _ (w : Upward (length rows) rows) (h : i < length rows) (p : ℕ) (e : x.parent_index ≡ Parent p) where
+  module _ (w : Upward (length rows) rows) (h : i < length rows) (p : ℕ) (e : x.parent_index ≡ Some p) where
     pub top_falls : p < i
-    top_falls = falls rows i (length rows) w h p (parent_here (Parent p) e)
+    top_falls = falls rows i (length rows) w h p (parent_here (Some p) e)
 
     pub top_up : (n : NameNumber) → n ≡ topmost rows p → n ≡ topmost rows i
     unfolding topmost
     top_up n f =
         f
-        ∙ ap (λ (ps : List ℕ). name_in (row_at rows (last_or i ps))) (sym (ancestors_up rows i (length rows) w h p (parent_here (Parent p) e)))
+        ∙ ap (λ (ps : List ℕ). name_in (row_at rows (last_or i ps))) (sym (ancestors_up rows i (length rows) w h p (parent_here (Some p) e)))
 
 -- ---- the tests
 
 -- x is the row at place i, v its existing value, a whether 25 refuses it, b whether its name's lock is foreign
 module _ (s : Store) (mode : PackedRefs) (opened : Bool) (rows : List Edit) (i : ℕ) (x : Edit) (ex : x ≡ row_at rows i)
-    (v : OptionTarget) (ev : v ≡ existing s opened x) (a : Bool) (ea : a ≡ conflicts s mode rows i v) where
+    (v : Option Target) (ev : v ≡ existing s opened x) (a : Bool) (ea : a ≡ conflicts s mode rows i v) where
   existing_here : existing s opened (row_at rows i) ≡ v
   existing_here = ap (existing s opened) (sym ex) ∙ sym ev
 
   conflict_here : (t : Bool) → a ≡ t → conflicts s mode rows i (existing s opened (row_at rows i)) ≡ t
   conflict_here t e = ap (conflicts s mode rows i) existing_here ∙ sym ea ∙ e
 
-  pub turn_nested : a ≡ true → refuse (NameConflict x.update.name) ≡ first_refusal (turn_tests s mode opened rows i)
-  turn_nested t = rw (conflict_here true t) (ap (λ (r : Edit). refuse (NameConflict (name_in r))) ex)
+  pub turn_nested : a ≡ true → Err (NameConflict x.update.name) ≡ first_refusal (turn_tests s mode opened rows i)
+  turn_nested t = rw (conflict_here true t) (ap (λ (r : Edit). Err (NameConflict (name_in r))) ex)
 
   module _ (u : a ≡ false) (b : Bool) (eb : b ≡ is_lock Foreign (entry_of s x.update.name).lock) where
     held_here : (t : Bool) → b ≡ t → is_lock Foreign (entry_of s (name_in (row_at rows i))).lock ≡ t
     held_here t e = ap (λ (r : Edit). is_lock Foreign (entry_of s (name_in r)).lock) (sym ex) ∙ sym eb ∙ e
 
-    pub turn_held : (top : NameNumber) → b ≡ true → top ≡ topmost rows i → refuse (LockAcquire top) ≡ first_refusal (turn_tests s mode opened rows i)
+    pub turn_held : (top : NameNumber) → b ≡ true → top ≡ topmost rows i → Err (LockAcquire top) ≡ first_refusal (turn_tests s mode opened rows i)
     turn_held top t f = rw (conflict_here false u, held_here true t, f)
 
-    pub turn_judged : (j : Judged) → b ≡ false → judged_option j ≡ judge x.update.name x.update.change v
+    pub turn_judged : (j : (Result (Unit {0}) Refusal)) → b ≡ false → judged_option j ≡ judge x.update.name x.update.change v
         → outcome_by j tt ≡ first_refusal (turn_tests s mode opened rows i)
     turn_judged j t g =
         let k : judge (name_in (row_at rows i)) (change_in (row_at rows i)) (existing s opened (row_at rows i)) ≡ judged_option j =
         ap (λ (r : Edit). judge (name_in r) (change_in r) (existing s opened r)) (sym ex) ∙ ap (judge (name_in x) (change_in x)) (sym ev) ∙ sym g in
         rw (conflict_here false u, held_here false t, k) (last j)
       where
-        last : (j : Judged) → outcome_by j tt ≡ first_refusal (judged_option j ∷ [])
-        last Passed = refl
-        last (Refused r) = refl
+        last : (j : (Result (Unit {0}) Refusal)) → outcome_by j tt ≡ first_refusal (judged_option j ∷ [])
+        last (Ok tt) = refl
+        last (Err r) = refl
 
 -- ---- one turn
 
-module _ (r : List ℕ) (mode : PackedRefs) (opened : Bool) (i : ℕ) (j : Judged)
+module _ (r : List ℕ) (mode : PackedRefs) (opened : Bool) (i : ℕ) (j : (Result (Unit {0}) Refusal))
     (h : outcome_by j tt ≡ first_refusal (turn_tests (view r) mode opened (rows_in (view r).prepared) i)) where
   -- the tests say what j says
-  tests : (k : Judged) → j ≡ k → (m : List Edit)
-      → (outcome_by k (tt {0}) >> pass m) ≡ (first_refusal (turn_tests (view r) mode opened (rows_in (view r).prepared) i) >> pass m)
-  tests k e m = ap (λ (o : Outcome (Unit {0})). o >> pass m) (ap (λ (j : Judged). outcome_by j tt) (sym e) ∙ h)
+  tests : (k : (Result (Unit {0}) Refusal)) → j ≡ k → (m : List Edit)
+      → (outcome_by k (tt {0}) >> Ok m) ≡ (first_refusal (turn_tests (view r) mode opened (rows_in (view r).prepared) i) >> Ok m)
+  tests k e m = ap (λ (o : Result (Unit {0}) Refusal). o >> Ok m) (ap (λ (j : (Result (Unit {0}) Refusal)). outcome_by j tt) (sym e) ∙ h)
 
-  pub turn_refused : (q : Refusal) → Laid r → j ≡ Refused q → Taken r r j (turn (view r) mode opened (rows_in (view r).prepared) i)
+  pub turn_refused : (q : Refusal) → Laid r → j ≡ Err q → Taken r r (Err q) (turn (view r) mode opened (rows_in (view r).prepared) i)
   unfolding turn
   turn_refused q l e =
       record {
         laid = l;
         seen = own_rows (view r);
-        whole = ap (λ (j : Judged). outcome_by j (rows_in (view r).prepared)) e ∙ tests (Refused q) e _;
+        whole = tests (Err q) e _;
       }
 
-  pub turn_passed : (r' : List ℕ) → i < length (rows_in (view r).prepared) → j ≡ Passed
+  pub turn_passed : (r' : List ℕ) → i < length (rows_in (view r).prepared) → j ≡ (Ok tt)
       → Became r' (with_rows (view r) (turned (view r) opened (rows_in (view r).prepared) i))
-      → Taken r r' Passed (turn (view r) mode opened (rows_in (view r).prepared) i)
+      → Taken r r' (Ok tt) (turn (view r) mode opened (rows_in (view r).prepared) i)
   unfolding turn
   turn_passed r' l e b =
       let n : rows_in (view r').prepared ≡ turned (view r) opened (rows_in (view r).prepared) i = rows_seen r r' i _ l b in
-      record { laid = b.laid; seen = b.seen ∙ ap (with_rows (view r)) (sym n); whole = ap pass n ∙ tests Passed e _ }
+      record { laid = b.laid; seen = b.seen ∙ ap (with_rows (view r)) (sym n); whole = ap Ok n ∙ tests (Ok tt) e _ }
 
 -- ---- the turns
 
@@ -154,7 +137,7 @@ far_start r mode opened n l w e =
       whole = ap (λ (k : ℕ). turns_from (view r) mode opened k 0 (rows_in (view r).prepared)) z;
     }
 
-module _ (r₀ r r' : List ℕ) (mode : PackedRefs) (opened : Bool) (n i : ℕ) (f : Far r₀ mode opened n i r) (h : i < n) (j : Judged)
+module _ (r₀ r r' : List ℕ) (mode : PackedRefs) (opened : Bool) (n i : ℕ) (f : Far r₀ mode opened n i r) (h : i < n) (j : (Result (Unit {0}) Refusal))
     (t : Taken r r' j (turn (view r) mode opened (rows_in (view r).prepared) i)) where
   both_seen : view r' ≡ with_rows (view r₀) (rows_in (view r').prepared)
   both_seen =
@@ -163,24 +146,24 @@ module _ (r₀ r r' : List ℕ) (mode : PackedRefs) (opened : Bool) (n i : ℕ) 
       ∙ ap (with_prepared (view r₀)) (as_as (rows_in (view r).prepared) (rows_in (view r').prepared) (view r₀).prepared)
 
   -- what this turn says, and then those behind it
-  both_whole : (k : Judged) → j ≡ k
+  both_whole : (k : (Result (Unit {0}) Refusal)) → j ≡ k
       → (outcome_by k (rows_in (view r').prepared) >>= λ next. turns_from (view r₀) mode opened (n - (i + 1)) (i + 1) next)
       ≡ turns_from (view r₀) mode opened (length (rows_in (view r₀).prepared)) 0 (rows_in (view r₀).prepared)
   unfolding turns_from
   both_whole k e =
       let m : suc (n - (i + 1)) ≡ n - i = omega arith in
-      ap (λ (o : Outcome (List Edit)). o >>= λ next. turns_from (view r₀) mode opened (n - (i + 1)) (i + 1) next)
-      (ap (λ (j : Judged). outcome_by j (rows_in (view r').prepared)) (sym e)
+      ap (λ (o : Result (List Edit) Refusal). o >>= λ next. turns_from (view r₀) mode opened (n - (i + 1)) (i + 1) next)
+      (ap (λ (j : (Result (Unit {0}) Refusal)). outcome_by j (rows_in (view r').prepared)) (sym e)
       ∙ t.whole
       ∙ ap (λ (s : Store). turn s mode opened (rows_in (view r).prepared) i) f.seen
       ∙ same_turn (view r₀) _ mode opened (rows_in (view r).prepared) i)
       ∙ ap (λ (k : ℕ). turns_from (view r₀) mode opened k i (rows_in (view r).prepared)) m
       ∙ f.whole
 
-  pub far_more : length r' ≡ length r → j ≡ Passed → Far r₀ mode opened n (i + 1) r'
+  pub far_more : length r' ≡ length r → j ≡ (Ok tt) → Far r₀ mode opened n (i + 1) r'
   far_more el e =
       let a : Alike (rows_in (view r').prepared) (rows_in (view r).prepared) =
-      turn_alike (view r) mode opened i _ _ (sym t.whole ∙ ap (λ (j : Judged). outcome_by j (rows_in (view r').prepared)) e) in
+      turn_alike (view r) mode opened i _ _ (sym t.whole ∙ ap (λ (j : (Result (Unit {0}) Refusal)). outcome_by j (rows_in (view r').prepared)) e) in
       record {
         laid = t.laid;
         same = el ∙ f.same;
@@ -188,20 +171,20 @@ module _ (r₀ r r' : List ℕ) (mode : PackedRefs) (opened : Bool) (n i : ℕ) 
         many = alike_length (rows_in (view r').prepared) (rows_in (view r).prepared) a ∙ f.many;
         upward = upward_alike (rows_in (view r).prepared) (rows_in (view r').prepared) a f.upward;
         seen = both_seen;
-        whole = both_whole Passed e;
+        whole = both_whole (Ok tt) e;
       }
 
-  pub far_stop : (q : Refusal) → j ≡ Refused q
-      → Taken r₀ r' j (turns_from (view r₀) mode opened (length (rows_in (view r₀).prepared)) 0 (rows_in (view r₀).prepared))
+  pub far_stop : (q : Refusal) → j ≡ Err q
+      → Taken r₀ r' (Err q) (turns_from (view r₀) mode opened (length (rows_in (view r₀).prepared)) 0 (rows_in (view r₀).prepared))
   far_stop q e =
       record {
         laid = t.laid;
         seen = both_seen;
-        whole = ap (λ (j : Judged). outcome_by j (rows_in (view r').prepared)) e ∙ both_whole (Refused q) e;
+        whole = both_whole (Err q) e;
       }
 
 pub far_end : (r₀ r : List ℕ) (mode : PackedRefs) (opened : Bool) (n i : ℕ) → Far r₀ mode opened n i r → n ≤ i
-    → Taken r₀ r Passed (turns_from (view r₀) mode opened (length (rows_in (view r₀).prepared)) 0 (rows_in (view r₀).prepared))
+    → Taken r₀ r (Ok tt) (turns_from (view r₀) mode opened (length (rows_in (view r₀).prepared)) 0 (rows_in (view r₀).prepared))
 unfolding turns_from
 far_end r₀ r mode opened n i f h =
     let k : 0 ≡ n - i = omega arith in

@@ -1,5 +1,7 @@
 -- Among the rows that splitting leaves every parent is an earlier row: a round's children have theirs among the rows before them.
 -- Assumes nothing.
+use Rattle.std.specs.Prelude.{Option, Some, None, Ok}
+use Rattle.target.specs.declared.NameNumber.{NameNumber}
 use mathlib.Core.Path.{◌≡◌, refl, sym, subst}
 use mathlib.Core.Bool.{true}
 use mathlib.Core.List.{List, [], ◌∷◌, ◌++◌, map}
@@ -8,14 +10,10 @@ use native.Mathlib.Omega.{arith}
 use lib.ListN.{length, length-append, length-map}
 use lib.Dec.{ltb}
 use borrow.Author.Tests.{lt-ltb}
-use Rattle.target.specs.declared.OptionName.{OptionName}
-use Rattle.target.specs.declared.OptionName.TheVariants.{NoName, Name}
 use Rattle.transaction.specs.declared.RefEdit.{RefEdit}
-use Rattle.transaction.specs.declared.ParentIndex.{ParentIndex}
 use Rattle.transaction.specs.declared.Edit.{Edit}
 use Rattle.transaction.specs.Change.{row_of}
 use Rattle.model.specs.Store.{Store, no_row}
-use Rattle.model.specs.Outcome.Outcome.{pass}
 use Rattle.model.specs.Split.{referent, settled, child_of, settle_all, children_from, rounds, splits}
 use Rattle.model.specs.Fine.{fine_parent, Upward}
 use Rattle.model.proofs.Binds.{refuse_pass, pass_is, cond_pass}
@@ -27,19 +25,19 @@ use Rattle.model.proofs.Climbs.{parent_at, Earlier, parent_later}
 abbrev Among : ℕ → List Edit → Type 0
 Among n rows = All (λ r. fine_parent n r.parent_index ≡ true) rows
 
-settled_parent : (o : OptionName) (r : Edit) → (settled o r).parent_index ≡ r.parent_index
-settled_parent NoName r = refl
-settled_parent (Name m) r = refl
+settled_parent : (o : Option NameNumber) (r : Edit) → (settled o r).parent_index ≡ r.parent_index
+settled_parent None r = refl
+settled_parent (Some m) r = refl
 
 settled_among : (s : Store) (n : ℕ) (rows : List Edit) → Among n rows → Among n (settle_all s rows)
 unfolding settle_all
 settled_among s n [] v = done
 settled_among s n (r ∷ rs) (also p ps) =
-    also (subst (λ (q : ParentIndex). fine_parent n q ≡ true) (sym (settled_parent (referent s r) r)) p) (settled_among s n rs ps)
+    also (subst (λ (q : Option ℕ). fine_parent n q ≡ true) (sym (settled_parent (referent s r) r)) p) (settled_among s n rs ps)
 
-child_among : (o : OptionName) (n i : ℕ) (r : Edit) → i < n → Among n (child_of o i r)
-child_among NoName n i r h = done
-child_among (Name m) n i r h = also (lt-ltb i n h) done
+child_among : (o : Option NameNumber) (n i : ℕ) (r : Edit) → i < n → Among n (child_of o i r)
+child_among None n i r h = done
+child_among (Some m) n i r h = also (lt-ltb i n h) done
 
 children_among : (s : Store) (n i : ℕ) (rs : List Edit) → i + length rs ≤ n → Among n (children_from s i rs)
 children_among s n i [] h = done
@@ -52,7 +50,7 @@ behind_earlier old more w v =
     (λ k h. parent_later (length old) (length old + k) (parent_at more k) (omega arith) (all_at v k no_row h))
 
 rounds_earlier : (s : Store) (left : ℕ) (old newest split : List Edit) → Earlier old → Among (length old) newest
-    → rounds s left old newest ≡ pass split → Earlier split
+    → rounds s left old newest ≡ Ok split → Earlier split
 unfolding rounds settle_all
 rounds_earlier s zero old [] split w v e = subst Earlier (pass_is e) w
 rounds_earlier s zero old (r ∷ rs) split w v e = absurd (refuse_pass e)
@@ -69,7 +67,7 @@ edits_among : (edits : List RefEdit) → Among 0 (map row_of edits)
 edits_among [] = done
 edits_among (e ∷ es) = also refl (edits_among es)
 
-pub splits_upward : (s : Store) (edits : List RefEdit) (rows : List Edit) → splits s (map row_of edits) ≡ pass rows → Upward (length rows) rows
+pub splits_upward : (s : Store) (edits : List RefEdit) (rows : List Edit) → splits s (map row_of edits) ≡ Ok rows → Upward (length rows) rows
 unfolding splits
 splits_upward s edits rows e =
     record { up = rounds_earlier s 5 [] (map row_of edits) rows (λ i h. absurd (omega arith)) (edits_among edits) e }

@@ -1,9 +1,7 @@
 -- A judgement of the code as the refusal that may be missing in the definitions.
-use Rattle.std.proofs.Math.Option.{Option, none, some}
+use Rattle.std.specs.Prelude.{Option, Some, None, Result, Ok, Err}
 use Rattle.model.specs.declared.Refusal.{Refusal}
-use Rattle.model.specs.declared.Judged.{Judged}
-use Rattle.model.specs.declared.Judged.TheVariants.{Passed, Refused}
 
-abbrev pub judged_option : Judged → Option Refusal
-judged_option Passed = none
-judged_option (Refused q) = some q
+abbrev pub judged_option : (Result (Unit {0}) Refusal) → Option Refusal
+judged_option (Ok tt) = None
+judged_option (Err q) = Some q

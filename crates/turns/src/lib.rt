@@ -12,46 +12,50 @@ ghost use Rattle.region.specs.Region.{view, Laid, Became};
 ghost use Rattle.writers.specs.Taken.{Taken, outcome_by};
 ghost use Rattle.turns.specs.Judged.{judged_option};
 
-use model::{Judged, Lock, Refusal};
-use target::{NameNumber, ObjectNumber, OptionObject, OptionTarget, Target};
-use transaction::{Change, Edit, PackedRefs, ParentIndex, PreviousValue, RefEdit};
+use model::{Lock, Refusal};
+use target::{NameNumber, ObjectNumber, Target};
+use transaction::{Change, Edit, PackedRefs, PreviousValue, RefEdit};
 
 // ---- R3's judgement: the two matches of prepare.rs
 
-fn must_match(name: NameNumber, expected: Target, actual: Target) -> Judged
+fn must_match(name: NameNumber, expected: Target, actual: Target) -> Result<(), Refusal>
     ensures { judged_option result ≡ must_match name expected actual }
 {
-    if expected.eq(actual) {
-        return Judged::Passed;
+    if expected == actual {
+        return Ok(());
     }
-    Judged::Refused(Refusal::ReferenceOutOfDate(name, expected, actual))
+    Err(Refusal::ReferenceOutOfDate(name, expected, actual))
 }
 
 // What exists must match; nothing need exist.
-fn may_match(name: NameNumber, expected: Target, existing: OptionTarget) -> Judged
+fn may_match(name: NameNumber, expected: Target, existing: Option<Target>) -> Result<(), Refusal>
     ensures { judged_option result ≡ judge_delete name (PreviousValue.ExistingMustMatch expected) existing }
 {
-    let OptionTarget::Present(actual) = existing else {
-        return Judged::Passed;
-    };
-    must_match(name, expected, actual)
+    match existing {
+        None => Ok(()),
+        Some(actual) => must_match(name, expected, actual),
+    }
 }
 
-fn judge_delete(name: NameNumber, expected: PreviousValue, existing: OptionTarget) -> Judged
+fn judge_delete(
+    name: NameNumber,
+    expected: PreviousValue,
+    existing: Option<Target>,
+) -> Result<(), Refusal>
     ensures { judged_option result ≡ judge_delete name expected existing }
 {
     match expected {
-        PreviousValue::Any => Judged::Passed,
+        PreviousValue::Any => Ok(()),
         PreviousValue::MustExist => {
-            let OptionTarget::Present(_) = existing else {
-                return Judged::Refused(Refusal::DeleteReferenceMustExist(name));
+            let Some(_) = existing else {
+                return Err(Refusal::DeleteReferenceMustExist(name));
             };
-            Judged::Passed
+            Ok(())
         }
-        PreviousValue::MustNotExist => Judged::Refused(Refusal::DeleteMustNotExist(name)),
+        PreviousValue::MustNotExist => Err(Refusal::DeleteMustNotExist(name)),
         PreviousValue::MustExistAndMatch(t) => {
-            let OptionTarget::Present(actual) = existing else {
-                return Judged::Refused(Refusal::DeleteReferenceMustExist(name));
+            let Some(actual) = existing else {
+                return Err(Refusal::DeleteReferenceMustExist(name));
             };
             must_match(name, t, actual)
         }
@@ -59,41 +63,41 @@ fn judge_delete(name: NameNumber, expected: PreviousValue, existing: OptionTarge
     }
 }
 
-fn free_for(name: NameNumber, new: Target, actual: Target) -> Judged
-    ensures { judged_option result ≡ judge_update name PreviousValue.MustNotExist new (OptionTarget.Present actual) }
+fn free_for(name: NameNumber, new: Target, actual: Target) -> Result<(), Refusal>
+    ensures { judged_option result ≡ judge_update name PreviousValue.MustNotExist new (Some actual) }
 {
-    if actual.eq(new) {
-        return Judged::Passed;
+    if actual == new {
+        return Ok(());
     }
-    Judged::Refused(Refusal::MustNotExist(name, actual, new))
+    Err(Refusal::MustNotExist(name, actual, new))
 }
 
 fn judge_update(
     name: NameNumber,
     expected: PreviousValue,
     new: Target,
-    existing: OptionTarget,
-) -> Judged
+    existing: Option<Target>,
+) -> Result<(), Refusal>
     ensures { judged_option result ≡ judge_update name expected new existing }
 {
     match expected {
-        PreviousValue::Any => Judged::Passed,
+        PreviousValue::Any => Ok(()),
         PreviousValue::MustExist => {
-            let OptionTarget::Present(_) = existing else {
+            let Some(_) = existing else {
                 let null = Target::Object(ObjectNumber::null());
-                return Judged::Refused(Refusal::MustExist(name, null));
+                return Err(Refusal::MustExist(name, null));
             };
-            Judged::Passed
+            Ok(())
         }
         PreviousValue::MustNotExist => {
-            let OptionTarget::Present(actual) = existing else {
-                return Judged::Passed;
+            let Some(actual) = existing else {
+                return Ok(());
             };
             free_for(name, new, actual)
         }
         PreviousValue::MustExistAndMatch(t) => {
-            let OptionTarget::Present(actual) = existing else {
-                return Judged::Refused(Refusal::MustExist(name, t));
+            let Some(actual) = existing else {
+                return Err(Refusal::MustExist(name, t));
             };
             must_match(name, t, actual)
         }
@@ -101,7 +105,7 @@ fn judge_update(
     }
 }
 
-fn judge_change(name: NameNumber, change: Change, existing: OptionTarget) -> Judged
+fn judge_change(name: NameNumber, change: Change, existing: Option<Target>) -> Result<(), Refusal>
     ensures { judged_option result ≡ judge name change existing }
 {
     match change {
@@ -117,10 +121,10 @@ fn judge_change(name: NameNumber, change: Change, existing: OptionTarget) -> Jud
 // ---- what a turn writes
 
 // R3: an existing value replaces what was expected.
-fn observing_in(change: Change, existing: OptionTarget) -> Change
+fn observing_in(change: Change, existing: Option<Target>) -> Change
     ensures { result ≡ observing change existing }
 {
-    let OptionTarget::Present(t) = existing else {
+    let Some(t) = existing else {
         return change;
     };
     match change {
@@ -129,27 +133,25 @@ fn observing_in(change: Change, existing: OptionTarget) -> Change
             expected: _,
             new,
         } => Change::Update {
-            log: log,
+            log,
             expected: PreviousValue::MustExistAndMatch(t),
-            new: new,
+            new,
         },
         Change::Delete { expected: _, log } => Change::Delete {
             expected: PreviousValue::MustExistAndMatch(t),
-            log: log,
+            log,
         },
     }
 }
 
-fn observe(row: Edit, existing: OptionTarget) -> Edit
+fn observe(row: Edit, existing: Option<Target>) -> Edit
     ensures { result ≡ observed row existing }
 {
-    let update = row.update;
-    let name = update.name;
-    let change = update.change;
-    let next = observing_in(change, existing);
-    let mut kept = row;
-    kept.update = RefEdit::new(next, name, update.deref);
-    kept
+    let next = observing_in(row.update.change, existing);
+    Edit {
+        update: RefEdit::new(next, row.update.name, row.update.deref),
+        ..row
+    }
 }
 
 // R3: the row at place i with the existing value, which it keeps from now on.
@@ -159,9 +161,7 @@ fn put_existing(region: &mut [u8], i: usize, opened: bool) -> Edit
     ensures { (result ≡ observed (row_at (rows_in (view region.old).prepared) i) (existing (view region.old) opened (row_at (rows_in (view region.old).prepared) i))) × Became region.new (with_rows (view region.old) (set (rows_in (view region.old).prepared) i result)) }
 {
     let row = region::row_at(region, i);
-    let update = row.update;
-    let name = update.name;
-    let found = steps::value_of(region, opened, name);
+    let found = steps::value_of(region, opened, row.update.name);
     let kept = observe(row, found);
     writers::put_row_at(region, i, kept);
     kept
@@ -171,9 +171,10 @@ fn put_existing(region: &mut [u8], i: usize, opened: bool) -> Edit
 fn with_leaf(leaf: ObjectNumber, row: Edit) -> Edit
     ensures { result ≡ with_leaf leaf row }
 {
-    let mut up = row;
-    up.leaf_referent_previous_oid = leaf;
-    up
+    Edit {
+        leaf_referent_previous_oid: leaf,
+        ..row
+    }
 }
 
 // R5: the row at place i gets the leaf-previous.
@@ -194,12 +195,10 @@ fn hand_up(region: &mut [u8], i: usize, leaf: ObjectNumber)
     ensures { Became region.new (with_rows (view region.old) (handed_to (ancestors (rows_in (view region.old).prepared) i) leaf (rows_in (view region.old).prepared))) }
 {
     let row = region::row_at(region, i);
-    let parent = row.parent_index;
-    let ParentIndex::Parent(p) = parent else {
-        return;
-    };
-    put_leaf(region, p, leaf);
-    hand_up(region, p, leaf);
+    if let Some(p) = row.parent_index {
+        put_leaf(region, p, leaf);
+        hand_up(region, p, leaf);
+    }
 }
 
 // R3 and R5: the existing value replaces what was expected, and its object goes to the ancestors.
@@ -210,12 +209,9 @@ fn turn_row(region: &mut [u8], i: usize, opened: bool)
     ensures { Became region.new (with_rows (view region.old) (turned (view region.old) opened (rows_in (view region.old).prepared) i)) }
 {
     let kept = put_existing(region, i, opened);
-    let edit = kept.update;
-    let change = edit.change;
-    let OptionObject::Id(oid) = change.previous_oid() else {
-        return;
-    };
-    hand_up(region, i, oid);
+    if let Some(oid) = kept.update.change.previous_oid() {
+        hand_up(region, i, oid);
+    }
 }
 
 // ---- a turn
@@ -223,11 +219,7 @@ fn turn_row(region: &mut [u8], i: usize, opened: bool)
 pub fn is_foreign(lock: Lock) -> bool
     ensures { result ≡ is_lock Lock.Foreign lock }
 {
-    match lock {
-        Lock::Free => false,
-        Lock::Foreign => true,
-        Lock::Ours => false,
-    }
+    lock == Lock::Foreign
 }
 
 // Whether the lock of a name is foreign; a number that is not registered has none.
@@ -235,10 +227,7 @@ fn held_by_others(region: &[u8], name: NameNumber) -> bool
     requires { Laid region.now }
     ensures { result ≡ is_lock Lock.Foreign (entry_of (view region.now) name).lock }
 {
-    if name.place() >= region::count_names(region) {
-        return false;
-    }
-    is_foreign(region::lock_at(region, name))
+    name.place() < region::count_names(region) && is_foreign(region::lock_at(region, name))
 }
 
 // The name of the topmost ancestor of the row at place i.
@@ -249,65 +238,58 @@ fn topmost_of(region: &[u8], i: usize) -> NameNumber
     ensures { result ≡ topmost (rows_in (view region.now).prepared) i }
 {
     let row = region::row_at(region, i);
-    let parent = row.parent_index;
-    let ParentIndex::Parent(p) = parent else {
-        let update = row.update;
-        return update.name;
-    };
-    topmost_of(region, p)
+    match row.parent_index {
+        None => row.update.name,
+        Some(p) => topmost_of(region, p),
+    }
 }
 
 // 25, then 8, then 9 to 13.
-fn judge_turn(region: &[u8], i: usize, mode: PackedRefs, opened: bool) -> Judged
+fn judge_turn(region: &[u8], i: usize, mode: PackedRefs, opened: bool) -> Result<(), Refusal>
     requires laid { Laid region.now }
     requires i_in_bounds { i < length (rows_in (view region.now).prepared) }
     requires upward { Upward (length (rows_in (view region.now).prepared)) (rows_in (view region.now).prepared) }
     ensures { outcome_by result tt ≡ first_refusal (turn_tests (view region.now) mode opened (rows_in (view region.now).prepared) i) }
 {
     let row = region::row_at(region, i);
-    let update = row.update;
-    let name = update.name;
+    let name = row.update.name;
     let existing = steps::value_of(region, opened, name);
     if beneath::conflicts(region, mode, i, existing) {
-        return Judged::Refused(Refusal::NameConflict(name));
+        return Err(Refusal::NameConflict(name));
     }
     if held_by_others(region, name) {
         let top = topmost_of(region, i);
-        return Judged::Refused(Refusal::LockAcquire(top));
+        return Err(Refusal::LockAcquire(top));
     }
-    let change = update.change;
-    judge_change(name, change, existing)
+    judge_change(name, row.update.change, existing)
 }
 
 // A row's turn.
-fn lock_ref_and_apply_change(region: &mut [u8], i: usize, mode: PackedRefs, opened: bool) -> Judged
+fn lock_ref_and_apply_change(
+    region: &mut [u8],
+    i: usize,
+    mode: PackedRefs,
+    opened: bool,
+) -> Result<(), Refusal>
     requires laid { Laid region.old }
     requires i_in_bounds { i < length (rows_in (view region.old).prepared) }
     requires upward { Upward (length (rows_in (view region.old).prepared)) (rows_in (view region.old).prepared) }
     ensures { Taken region.old region.new result (turn (view region.old) mode opened (rows_in (view region.old).prepared) i) }
 {
-    let judged = judge_turn(region, i, mode, opened);
-    let Judged::Passed = judged else {
-        return judged;
-    };
+    judge_turn(region, i, mode, opened)?;
     turn_row(region, i, opened);
-    Judged::Passed
+    Ok(())
 }
 
 // All turns, in order, up to the first refusal.
-pub fn take_turns(region: &mut [u8], mode: PackedRefs, opened: bool) -> Judged
+pub fn take_turns(region: &mut [u8], mode: PackedRefs, opened: bool) -> Result<(), Refusal>
     requires laid { Laid region.old }
     requires upward { Upward (length (rows_in (view region.old).prepared)) (rows_in (view region.old).prepared) }
     ensures { Taken region.old region.new result (turns_from (view region.old) mode opened (length (rows_in (view region.old).prepared)) 0 (rows_in (view region.old).prepared)) }
 {
     let count = region::count_rows(region);
-    let mut i: usize = 0;
-    while i < count {
-        let judged = lock_ref_and_apply_change(region, i, mode, opened);
-        let Judged::Passed = judged else {
-            return judged;
-        };
-        i += 1;
+    for i in 0..count {
+        lock_ref_and_apply_change(region, i, mode, opened)?;
     }
-    Judged::Passed
+    Ok(())
 }

@@ -1,10 +1,9 @@
 -- What a codec gives of a whole table: an accepted stretch is the table of its elements, and a table of fitting elements is
 -- accepted and holds them. And the codec of what is read partially. Passes on the laws of slots. Assumes nothing.
+use Rattle.std.specs.Prelude.{Option, Some, None, unwrap_or}
 use mathlib.Core.Path.{◌≡◌, refl, sym, ap, ◌∙◌, subst}
 use mathlib.Core.List.{List}
 use mathlib.Core.Bool.{true, false≢true}
-use mathlib.Core.Option
-use mathlib.Core.Option.{Option, none, some}
 use Prim.Native.Nat.{ℕ, ◌+◌, ◌*◌, ◌<◌, ◌≤◌}
 use native.Mathlib.Omega.{arith}
 use lib.ListN.{length, get_or}
@@ -59,26 +58,26 @@ module _ {A : Type 0} {Fits : A → Type 0} (C : Codec A Fits) (c n base : ℕ) 
 -- ---- the codec of what is read partially
 
 -- what was read, where something was
-pub some_get_d : {A : Type 0} (o : Option A) (d : A) → is_some o ≡ true → o ≡ some (Option.get_or o d)
-some_get_d none d e = absurd (false≢true e)
-some_get_d (some x) d e = refl
+pub some_get_d : {A : Type 0} (o : Option A) (d : A) → is_some o ≡ true → o ≡ Some (unwrap_or o d)
+some_get_d None d e = absurd (false≢true e)
+some_get_d (Some x) d e = refl
 
 -- `parse` reads an element, or nothing; d stands where nothing is read
 module _ {A : Type 0} {Fits : A → Type 0} (w : ℕ) (enc : A → List ℕ) (parse : List ℕ → Option A) (d : A)
     (wide : (x : A) → length (enc x) ≡ w)
     (bytes : (x : A) → Fits x → Bytes (enc x))
-    (parse-enc : (x : A) → Fits x → parse (enc x) ≡ some x)
-    (enc-parse : (r : List ℕ) (x : A) → parse r ≡ some x → Bytes r → length r ≡ w → (enc x ≡ r) × Fits x) where
+    (parse-enc : (x : A) → Fits x → parse (enc x) ≡ Some x)
+    (enc-parse : (r : List ℕ) (x : A) → parse r ≡ Some x → Bytes r → length r ≡ w → (enc x ≡ r) × Fits x) where
   unfoldable pub partly : Codec A Fits
   partly = record {
     w = w;
     enc = enc;
-    dec = λ r. Option.get_or (parse r) d;
+    dec = λ r. unwrap_or (parse r) d;
     test = λ r. is_some (parse r);
     wide = wide;
     bytes = bytes;
-    dec_enc = λ x f. ap (λ (o : Option A). Option.get_or o d) (parse-enc x f);
+    dec_enc = λ x f. ap (λ (o : Option A). unwrap_or o d) (parse-enc x f);
     test_enc = λ x f. ap is_some (parse-enc x f);
-    enc_dec = λ r b l t. (enc-parse r (Option.get_or (parse r) d) (some_get_d (parse r) d t) b l).0;
-    fits_dec = λ r b l t. (enc-parse r (Option.get_or (parse r) d) (some_get_d (parse r) d t) b l).1;
+    enc_dec = λ r b l t. (enc-parse r (unwrap_or (parse r) d) (some_get_d (parse r) d t) b l).0;
+    fits_dec = λ r b l t. (enc-parse r (unwrap_or (parse r) d) (some_get_d (parse r) d t) b l).1;
   }

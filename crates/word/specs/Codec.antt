@@ -1,6 +1,5 @@
 -- The form of an element in a slot, and what stands in a table of such slots.
-use Rattle.std.specs.Prelude.{◌≡◌, List, [], ◌∷◌, Bool, true, false, ◌&&◌, cond, ℕ, ◌+◌, ◌*◌, length, eqb, ltb}
-use Rattle.std.proofs.Math.Option.{Option, none, some}
+use Rattle.std.specs.Prelude.{◌≡◌, List, [], ◌∷◌, Bool, true, false, ◌&&◌, cond, ℕ, ◌+◌, ◌*◌, length, eqb, ltb, Option, Some, None}
 use Rattle.word.specs.Be.{Bytes, cut}
 use Rattle.word.specs.Tests.{below}
 use Rattle.word.specs.Table.{tabulate}
@@ -21,8 +20,8 @@ pub record Codec (A : Type 0) (Fits : A → Type 0) : Type 0 where
 
 -- something was read
 abbrev pub is_some : {A : Type 0} → Option A → Bool
-is_some none = false
-is_some (some x) = true
+is_some None = false
+is_some (Some x) = true
 
 -- slot i of a table that begins at base
 abbrev pub slot : ℕ → ℕ → ℕ → List ℕ → List ℕ

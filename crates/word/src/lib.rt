@@ -16,10 +16,8 @@ pub fn get(s: &[u8]) -> u64
     ensures { result ≡ val s.now }
 {
     let mut acc: u64 = 0;
-    let mut i = 0;
-    while i < s.len() {
-        acc = acc * 256 + (s[i] as u64);
-        i += 1;
+    for &byte in s {
+        acc = acc * 256 + u64::from(byte);
     }
     acc
 }
@@ -45,9 +43,7 @@ pub fn put(s: &mut [u8], x: u64)
     ensures { s.new ≡ be (length s.old) x }
 {
     let mut left = x;
-    let mut i = s.len();
-    while 0 < i {
-        i -= 1;
+    for i in (0..s.len()).rev() {
         s[i] = (left % 256) as u8;
         left = left / 256;
     }
@@ -64,64 +60,22 @@ pub fn put_at(s: &mut [u8], at: usize, width: usize, x: u64)
 
 // ---- parts
 
-// The greater of the two: 0 exactly where both are.
-fn greater_of(a: u8, b: u8) -> u8
-    ensures { eqb result 0 ≡ (eqb a 0 && eqb b 0) }
-{
-    if a < b { b } else { a }
-}
-
 // Every byte is 0. The greatest is looked for, with no way out before the end, so that many bytes can be looked at in one step.
 pub fn all_zero(s: &[u8]) -> bool
     ensures { result ≡ zeros s.now }
 {
     let mut most: u8 = 0;
-    let mut i = 0;
-    while i < s.len() {
-        most = greater_of(most, s[i]);
-        i += 1;
+    for &byte in s {
+        most = most.max(byte);
     }
     most == 0
 }
 
-// Every byte becomes 0.
-pub fn put_zeros(s: &mut [u8])
-    ensures { s.new ≡ replicate (length s.old) 0 }
-{
-    let mut i = 0;
-    while i < s.len() {
-        s[i] = 0;
-        i += 1;
-    }
-}
-
-// The two are as long, and byte by byte the same. Most names begin alike, so the bytes are compared from the back.
+// The two are as long, and byte by byte the same.
 pub fn same(a: &[u8], b: &[u8]) -> bool
     ensures { result ≡ same_list a.now b.now }
 {
-    if a.len() != b.len() {
-        return false;
-    }
-    let mut left = a.len();
-    while 0 < left {
-        left -= 1;
-        if a[left] != b[left] {
-            return false;
-        }
-    }
-    true
-}
-
-// The bytes of src, put into a part that is as long.
-pub fn copy(dst: &mut [u8], src: &[u8])
-    requires { length dst.old ≡ length src.now }
-    ensures { dst.new ≡ src.now }
-{
-    let mut i = 0;
-    while i < dst.len() {
-        dst[i] = src[i];
-        i += 1;
-    }
+    a == b
 }
 
 // ---- flags, by number
@@ -139,8 +93,5 @@ pub fn raise(flags: &mut [bool], k: usize)
 pub fn is_raised(flags: &[bool], k: usize) -> bool
     ensures { result ≡ get_or flags.now k false }
 {
-    if k < flags.len() {
-        return flags[k];
-    }
-    false
+    flags.get(k).copied().unwrap_or(false)
 }

@@ -1,5 +1,7 @@
 -- What accessors that write rest on: the changed store fits its bytes, and the region with the bytes written is its image.
 -- Assumes nothing.
+use Rattle.std.specs.Prelude.{Option, None}
+use Rattle.target.specs.declared.ObjectNumber.{ObjectNumber}
 use mathlib.Core.Path.{◌≡◌, refl, sym, ap, ap₂, subst, ◌∙◌}
 use mathlib.Core.List.{List, [], ◌∷◌, ◌++◌, map}
 use Prim.Native.Nat.{ℕ, zero, suc, ◌+◌, ◌-◌, ◌*◌, ◌≤◌, ◌<◌}
@@ -15,8 +17,6 @@ use Rattle.word.proofs.Be.{bytes_all}
 use Rattle.word.proofs.Cut.{length_cut}
 use Rattle.word.proofs.Parts.{width}
 use Rattle.model.specs.declared.Loose.{Loose}
-use Rattle.model.specs.declared.Packed.{Packed}
-use Rattle.model.specs.declared.Packed.TheVariants as packed
 use Rattle.model.specs.declared.Lock.{Lock}
 use Rattle.model.specs.declared.WriteReflog.{WriteReflog}
 use Rattle.model.specs.Store.{Store, Entry, no_entry, empty, count, entry_at, lock_byte, put_loose, put_packed, put_lock, change_at, change_entry, with_entries, with_packed_lock}
@@ -25,7 +25,8 @@ use Rattle.model.specs.PackedText.{unpacked}
 use Rattle.model.proofs.All.{at_append}
 use Rattle.model.proofs.Base.{changed_count, changed_at, mapped_at}
 use Rattle.slots.specs.Values.{FitsLoose, FitsPacked, loose_form, packed_form, lock_form}
-use Rattle.region.specs.Region.{image, view, setting_byte, Laid, Became}
+use Rattle.region.specs.Region.{image, view, Laid, Became}
+use Rattle.model.specs.Load.{setting_byte}
 use Rattle.region.proofs.Fits.{FitsStore}
 use Rattle.region.proofs.Decode.{laid_image, became}
 use Rattle.writers.proofs.Write.{write_loose_lem, write_packed_lem, write_lock, write_packed_lock, write_name, forget_packed, write_empty}
@@ -77,7 +78,7 @@ module _ (r b : List ℕ) (n : ℕ) (l : Laid r) (h : n < count (view r)) where
   put_loose_is v g e =
       changed r b (loose_form v) (16653 + n * 9) 9 n (put_loose v) l (fitting.0, g, fitting.2) e (write_loose_lem (view r) n v h l.names)
 
-  pub put_packed_is : (v : Packed) → FitsPacked v → b ≡ packed_form v
+  pub put_packed_is : (v : Option ObjectNumber) → FitsPacked v → b ≡ packed_form v
       → Became (put (18957 + n * 8) (18957 + n * 8 + 8 - (18957 + n * 8)) r b) (change_entry (put_packed v) n (view r))
   put_packed_is v g e =
       changed r b (packed_form v) (18957 + n * 8) 8 n (put_packed v) l (fitting.0, fitting.1, g) e (write_packed_lem (view r) n v h l.names)
@@ -115,11 +116,11 @@ add_name_is r r' b name n l h g t e p q =
 fits_cleared : (s : Store) → FitsStore s → FitsStore (unpacked s)
 unfolding unpacked
 fits_cleared s f =
-    let e : length (map (put_packed packed.None) s.entries) ≡ count s = length-map s.entries _ in
-    fits_entries s (map (put_packed packed.None) s.entries) f (le_trans (le_of_eq e) f.names)
-    (λ i k. subst FitsEntry (sym (mapped_at (put_packed packed.None) refl i s.entries)) (kept i (f.entry i (le_trans k (le_of_eq e)))))
+    let e : length (map (put_packed None) s.entries) ≡ count s = length-map s.entries _ in
+    fits_entries s (map (put_packed None) s.entries) f (le_trans (le_of_eq e) f.names)
+    (λ i k. subst FitsEntry (sym (mapped_at (put_packed None) refl i s.entries)) (kept i (f.entry i (le_trans k (le_of_eq e)))))
   where
-    kept : (i : ℕ) → FitsEntry (entry_at s i) → FitsEntry (put_packed packed.None (entry_at s i))
+    kept : (i : ℕ) → FitsEntry (entry_at s i) → FitsEntry (put_packed None (entry_at s i))
     kept i g = (g.0, g.1, tt)
 
 pub forget_packed_is : (r z : List ℕ) → Laid r → z ≡ replicate (length (cut 18957 2048 r)) 0 → Became (put 18957 2048 r z) (unpacked (view r))

@@ -1,7 +1,8 @@
 -- A value written into the image of a store leaves the image of the store with that value. Assumes nothing.
+use Rattle.std.specs.Prelude.{Option, None}
+use Rattle.target.specs.declared.ObjectNumber.{ObjectNumber}
 use mathlib.Core.Path.{◌≡◌, refl, sym, ap, ap₂, ◌∙◌}
 use mathlib.Core.List.{List, [], ◌∷◌, ◌++◌, map}
-use mathlib.Core.Option.{none}
 use Prim.Native.Nat.{ℕ, zero, suc, ◌+◌, ◌*◌, ◌≤◌, ◌<◌}
 use native.Mathlib.Nat.{le_trans}
 use native.Mathlib.Omega.{arith}
@@ -18,8 +19,6 @@ use Rattle.word.proofs.Table.{drop_all, table_same, put_table, add_table, cut_pa
 use Rattle.word.proofs.Codec.{slot_room}
 use Rattle.word.proofs.Text.{length_text}
 use Rattle.model.specs.declared.Loose.{Loose}
-use Rattle.model.specs.declared.Packed.{Packed}
-use Rattle.model.specs.declared.Packed.TheVariants as packed
 use Rattle.model.specs.declared.Lock.{Lock}
 use Rattle.model.specs.declared.WriteReflog.{WriteReflog}
 use Rattle.model.specs.Store.{Store, Entry, no_entry, empty, count, lock_byte, put_loose, put_packed, put_lock, change_at, change_entry, with_entries}
@@ -29,7 +28,8 @@ use Rattle.model.specs.PackedText.{unpacked}
 use Rattle.slots.specs.Values.{loose_form, packed_form, lock_form, line_form}
 use Rattle.slots.specs.Row.{row_form}
 use Rattle.region.specs.Layout.{sizes}
-use Rattle.region.specs.Region.{sections, image, setting_byte}
+use Rattle.region.specs.Region.{sections, image}
+use Rattle.model.specs.Load.{setting_byte}
 use Rattle.slots.proofs.Codecs.{wide_loose, wide_packed, wide_lock}
 use Rattle.region.proofs.Sized.{sized, length_image}
 use Rattle.writers.proofs.WriteLaws.{table_zeros, text_written_lem, nils, flat_nils}
@@ -139,7 +139,7 @@ write_loose_lem s n v h k =
     changes s n (put_loose v) (in_looses s n (loose_form v) (le_trans h k)) (sym (names_same s.entries n _ refl))
     (puts s.entries n _ (le_trans h k) h).0 (sym (packeds_same s.entries n _ refl)) (sym (locks_same s.entries n _ refl))
 
-pub write_packed_lem : (s : Store) (n : ℕ) (v : Packed) → n < count s → count s ≤ 256
+pub write_packed_lem : (s : Store) (n : ℕ) (v : Option ObjectNumber) → n < count s → count s ≤ 256
     → put (18957 + n * 8) 8 (image s) (packed_form v) ≡ image (change_entry (put_packed v) n s)
 write_packed_lem s n v h k =
     changes s n (put_packed v) (in_packeds s n (packed_form v) (le_trans h k)) (sym (names_same s.entries n _ refl))
@@ -238,13 +238,13 @@ table_cleared w enc f e zero xs = refl
 table_cleared w enc f e (suc c) [] = refl
 table_cleared w enc f e (suc c) (x ∷ xs) = ap₂ (λ (l m : List ℕ). l ++ m) (e x) (table_cleared w enc f e c xs)
 
-no_packed : packed_form packed.None ≡ replicate 8 0
+no_packed : packed_form None ≡ replicate 8 0
 unfolding packed_form fields be be_on
 no_packed = refl
 
 module _ (s : Store) where
   cleared : List Entry
-  cleared = map (put_packed packed.None) s.entries
+  cleared = map (put_packed None) s.entries
 
   clears : (z : List ℕ) → z ≡ packeds cleared → put 18957 2048 (image s) z ≡ image (unpacked s)
   unfolding image sections framed names looses packeds locks cleared unpacked
@@ -252,10 +252,10 @@ module _ (s : Store) where
       put_whole (sections s) sizes (sized s) 10 z (lit< tt)
       ∙ ap flat
       (became_as s cleared (sym (length-map s.entries _)) (names s.entries) (looses s.entries) z (locks s.entries)
-      (sym (table_mapped 65 (λ (e : Entry). enc_text 64 e.name) (put_packed packed.None) (λ x. refl) 256 s.entries))
-      (sym (table_mapped 9 (λ (e : Entry). loose_form e.loose) (put_packed packed.None) (λ x. refl) 256 s.entries))
+      (sym (table_mapped 65 (λ (e : Entry). enc_text 64 e.name) (put_packed None) (λ x. refl) 256 s.entries))
+      (sym (table_mapped 9 (λ (e : Entry). loose_form e.loose) (put_packed None) (λ x. refl) 256 s.entries))
       e
-      (sym (table_mapped 1 (λ (e : Entry). lock_form e.lock) (put_packed packed.None) (λ x. refl) 256 s.entries)))
+      (sym (table_mapped 1 (λ (e : Entry). lock_form e.lock) (put_packed None) (λ x. refl) 256 s.entries)))
 
   pub forget_packed : (n : ℕ) → n ≡ 2048 → put 18957 2048 (image s) (replicate n 0) ≡ image (unpacked s)
   unfolding packeds cleared
@@ -263,7 +263,7 @@ module _ (s : Store) where
       clears (replicate n 0)
       (ap (λ (i : ℕ). replicate i 0) f
       ∙ sym (drop_all 256 (λ (e : Entry). packed_form e.packed) 8)
-      ∙ sym (table_cleared 8 (λ (e : Entry). packed_form e.packed) (put_packed packed.None) (λ x. no_packed) 256 s.entries))
+      ∙ sym (table_cleared 8 (λ (e : Entry). packed_form e.packed) (put_packed None) (λ x. no_packed) 256 s.entries))
 
 -- ---- nothing prepared any more
 
@@ -283,7 +283,7 @@ module _ (s : Store) where
   unfolding no_count no_mode sections
   sized_count = ap₂ (λ (l : List ℕ) (k : ℕ). set l 6 k) sized_mode (length_be 1 0)
 
-  no_rows : (z : List ℕ) → z ≡ table 160 row_form 36 [] → put 21261 5760 (flat no_count) z ≡ image (with_prepared s none)
+  no_rows : (z : List ℕ) → z ≡ table 160 row_form 36 [] → put 21261 5760 (flat no_count) z ≡ image (with_prepared s None)
   unfolding image no_count no_mode sections
   no_rows z e =
       put_whole no_count sizes sized_count 12 z (lit< tt)
@@ -291,7 +291,7 @@ module _ (s : Store) where
 
   -- n is known only by an equation: no list of zeros is written out
   pub forget_rows : (n : ℕ) → n ≡ 5760
-      → put 21261 5760 (put 11 1 (put 10 1 (image s) (be 1 0)) (be 1 0)) (replicate n 0) ≡ image (with_prepared s none)
+      → put 21261 5760 (put 11 1 (put 10 1 (image s) (be 1 0)) (be 1 0)) (replicate n 0) ≡ image (with_prepared s None)
   unfolding image no_count no_mode
   forget_rows n f =
       ap (λ (r : List ℕ). put 21261 5760 (put 11 1 r (be 1 0)) (replicate n 0)) (put_whole (sections s) sizes (sized s) 5 (be 1 0) (lit< tt))

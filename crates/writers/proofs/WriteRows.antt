@@ -1,7 +1,7 @@
 -- The mode and the rows written into the image of a store leave the image of the store with them. Assumes nothing.
+use Rattle.std.specs.Prelude.{Some, None}
 use mathlib.Core.Path.{◌≡◌, refl, sym, ap, ap₂, ◌∙◌}
 use mathlib.Core.List.{List, [], ◌∷◌, ◌++◌, map}
-use mathlib.Core.Option.{none, some}
 use Prim.Native.Nat.{ℕ, ◌+◌, ◌*◌, ◌≤◌, ◌<◌}
 use native.Mathlib.Omega.{arith}
 use lib.ListN.{length, set, length-set, length-append}
@@ -24,7 +24,7 @@ use Rattle.region.specs.Region.{sections, image}
 use Rattle.region.proofs.Sized.{sized}
 
 abbrev pub having : Store → PackedRefs → List Edit → Store
-having s m rows = with_prepared s (some (record { mode = m; rows = rows }))
+having s m rows = with_prepared s (Some (record { mode = m; rows = rows }))
 
 unfoldable rowed : List Edit → List ℕ
 rowed rows = table 160 row_form 36 rows
@@ -73,6 +73,6 @@ write_more s m rows row h =
     ∙ ap (λ (n : ℕ). flat (framed s m n (rowed more))) (sym (length-append rows (row ∷ [])))
     ∙ ap flat (framed_is s m more)
 
-pub write_mode : (s : Store) (m : PackedRefs) → put 10 1 (image (with_prepared s none)) (be 1 (packed_refs_number m)) ≡ image (having s m [])
+pub write_mode : (s : Store) (m : PackedRefs) → put 10 1 (image (with_prepared s None)) (be 1 (packed_refs_number m)) ≡ image (having s m [])
 unfolding image sections
-write_mode s m = put_whole (sections (with_prepared s none)) sizes (sized (with_prepared s none)) 5 (be 1 (packed_refs_number m)) (lit< tt)
+write_mode s m = put_whole (sections (with_prepared s None)) sizes (sized (with_prepared s None)) 5 (be 1 (packed_refs_number m)) (lit< tt)

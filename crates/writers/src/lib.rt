@@ -3,7 +3,7 @@
 #![tactic(auto)]
 
 ghost use Rattle.std.specs.Prelude.{◌≡◌, true, not, [], ◌∷◌, ◌++◌, ◌≤◌, ◌<◌, length, take, set};
-ghost use Rattle.std.proofs.Math.Option.{none, some};
+ghost use Rattle.std.specs.Prelude.{None, Some};
 ghost use Rattle.model.specs.Basic.{select};
 ghost use Rattle.model.specs.Store.{count, rows_in, is_prepared, is_of, empty, put_loose, put_packed, put_lock, change_entry, with_entries};
 ghost use Rattle.model.specs.Store.{with_lines, with_packed_lock, with_prepared, with_rows};
@@ -12,12 +12,12 @@ ghost use Rattle.model.specs.PackedText.{unpacked};
 ghost use Rattle.slots.specs.Values.{FitsLoose, FitsPacked, FitsLine};
 ghost use Rattle.slots.specs.Row.{FitsRow};
 ghost use Rattle.region.specs.Layout.{region_size};
-ghost use Rattle.region.specs.Region.{image, view, setting_byte, Laid, Became};
+ghost use Rattle.region.specs.Region.{image, view, Laid, Became};
 ghost use Rattle.writers.specs.Moved.{moved, placed};
 
-use model::{Line, Lock, Loose, Packed, WriteReflog};
+use model::{Line, Lock, Loose, WriteReflog};
 use region::Layout;
-use target::NameNumber;
+use target::{NameNumber, ObjectNumber};
 use transaction::{Edit, PackedRefs};
 
 // ---- values of a name
@@ -33,7 +33,7 @@ pub fn put_loose_at(region: &mut [u8], n: NameNumber, v: Loose)
     slots::put_loose(&mut region[a..e], v);
 }
 
-pub fn put_packed_at(region: &mut [u8], n: NameNumber, v: Packed)
+pub fn put_packed_at(region: &mut [u8], n: NameNumber, v: Option<ObjectNumber>)
     requires laid { Laid region.old }
     requires n_bound { n.0 < count (view region.old) }
     requires fits_packed { FitsPacked v }
@@ -58,8 +58,7 @@ pub fn put_packed_lock(region: &mut [u8], v: Lock)
     requires { Laid region.old }
     ensures { Became region.new (with_packed_lock (view region.old) v) }
 {
-    let byte = slots::lock_byte(v);
-    word::put_at(region, Layout::PACKED_LOCK, 1, byte);
+    word::put_at(region, Layout::PACKED_LOCK, 1, u64::from(v));
 }
 
 // No name has a packed value any more.
@@ -67,9 +66,7 @@ pub fn forget_packed(region: &mut [u8])
     requires { Laid region.old }
     ensures { Became region.new (unpacked (view region.old)) }
 {
-    let a = Layout::PACKEDS;
-    let e = Layout::LOCKS;
-    word::put_zeros(&mut region[a..e]);
+    region[Layout::PACKEDS..Layout::LOCKS].fill(0);
 }
 
 // A name more, with no value and a free lock.
@@ -84,20 +81,19 @@ pub fn add_name(region: &mut [u8], name: &[u8])
     let b = a + 1;
     let e = b + name.len();
     region[a] = name.len() as u8;
-    word::copy(&mut region[b..e], name);
+    region[b..e].copy_from_slice(name);
     word::put_at(region, Layout::NAME_COUNT, 2, (n + 1) as u64);
 }
 
 // ---- rows
 
-// Rows under a mode, none so far.
+// Rows under a mode, None so far.
 pub fn begin_rows(region: &mut [u8], mode: PackedRefs)
     requires laid { Laid region.old }
-    requires region_value { (view region.old).prepared ≡ none }
-    ensures { Became region.new (with_prepared (view region.old) (some (record { mode = mode; rows = [] }))) }
+    requires region_value { (view region.old).prepared ≡ None }
+    ensures { Became region.new (with_prepared (view region.old) (Some (record { mode = mode; rows = [] }))) }
 {
-    let number = mode.number();
-    word::put_at(region, Layout::MODE_AT, 1, number);
+    word::put_at(region, Layout::MODE_AT, 1, u64::from(mode));
 }
 
 pub fn put_row_at(region: &mut [u8], i: usize, row: Edit)
@@ -129,13 +125,11 @@ pub fn add_row(region: &mut [u8], row: Edit)
 // The rows are forgotten, and nothing is prepared any more.
 pub fn forget_rows(region: &mut [u8])
     requires { Laid region.old }
-    ensures { Became region.new (with_prepared (view region.old) none) }
+    ensures { Became region.new (with_prepared (view region.old) None) }
 {
-    let a = Layout::ROWS;
-    let e = Layout::LINES;
     word::put_at(region, Layout::MODE_AT, 1, 0);
     word::put_at(region, Layout::ROW_COUNT, 1, 0);
-    word::put_zeros(&mut region[a..e]);
+    region[Layout::ROWS..Layout::LINES].fill(0);
 }
 
 // ---- log lines
@@ -174,7 +168,7 @@ pub fn keep_lines(region: &mut [u8], j: usize)
     let count = region::count_lines(region);
     let a = Layout::LINES + j * Layout::LINE_WIDTH;
     let e = Layout::LINES + count * Layout::LINE_WIDTH;
-    word::put_zeros(&mut region[a..e]);
+    region[a..e].fill(0);
     word::put_at(region, Layout::LINE_COUNT, 2, j as u64);
 }
 
@@ -185,8 +179,7 @@ fn move_line(region: &mut [u8], name: NameNumber, i: usize, j: usize) -> usize
     ensures { (result ≡ placed name i j (view region.old).lines) × Became region.new (with_lines (view region.old) (moved name i j (view region.old).lines)) }
 {
     let line = region::line_at(region, i);
-    let of = line.name;
-    if of.eq(name) {
+    if line.name == name {
         return j;
     }
     put_line_at(region, j, line);
@@ -199,35 +192,22 @@ pub fn remove_lines(region: &mut [u8], name: NameNumber)
     ensures { Became region.new (with_lines (view region.old) (select (λ l. not (is_of name l)) (view region.old).lines)) }
 {
     let count = region::count_lines(region);
-    let mut i: usize = 0;
     let mut j: usize = 0;
-    while i < count {
+    for i in 0..count {
         j = move_line(region, name, i, j);
-        i += 1;
     }
     keep_lines(region, j);
 }
 
 // ---- a new region
 
-fn setting_byte(setting: WriteReflog) -> u64
-    ensures { result ≡ setting_byte setting }
-{
-    match setting {
-        WriteReflog::Disable => WriteReflog::DISABLE,
-        WriteReflog::Normal => WriteReflog::NORMAL,
-        WriteReflog::Always => WriteReflog::ALWAYS,
-    }
-}
-
 // The image of an empty store.
 pub fn make_empty(region: &mut [u8], setting: WriteReflog)
     requires { length region.old ≡ region_size }
     ensures { region.new ≡ image (empty setting) }
 {
-    let byte = setting_byte(setting);
-    word::put_zeros(region);
+    region.fill(0);
     word::put_at(region, Layout::VERSION_AT, 1, Layout::VERSION);
     word::put_at(region, Layout::REST_AT, 4, Layout::REST);
-    word::put_at(region, Layout::SETTING_AT, 1, byte);
+    word::put_at(region, Layout::SETTING_AT, 1, u64::from(setting));
 }

@@ -1,5 +1,4 @@
 pub mod Named
-pub mod Says
 pub mod Turns
 pub mod Place
 pub mod Stable

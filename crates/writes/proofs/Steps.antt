@@ -1,8 +1,8 @@
 -- What a place writes, made, leaves every later place as it is. Assumes nothing.
+use Rattle.std.specs.Prelude.{Option, Some, None}
 use mathlib.Core.Path.{◌≡◌, refl, sym, ap, ◌∙◌, subst}
 use mathlib.Core.Bool.{Bool, true, false, ◌&&◌, ◌||◌, not, cond}
 use mathlib.Core.List.{List, [], ◌∷◌, map}
-use mathlib.Core.Option.{Option}
 use Prim.Native.Nat.{ℕ, suc, ◌+◌, ◌≤◌, ◌<◌}
 use native.Mathlib.Omega.{arith}
 use lib.ListN.{length}
@@ -11,8 +11,6 @@ use borrow.Author.Tests.{ltb-true, le-ltb}
 use Rattle.target.specs.declared.NameNumber.{NameNumber}
 use Rattle.target.specs.declared.ObjectNumber.{ObjectNumber}
 use Rattle.target.specs.declared.Target.{Target}
-use Rattle.target.specs.declared.OptionTarget.{OptionTarget}
-use Rattle.target.specs.declared.OptionTarget.TheVariants.{Absent, Present}
 use Rattle.transaction.specs.declared.Change.{Change}
 use Rattle.transaction.specs.declared.Change.TheVariants.{Update, Delete}
 use Rattle.transaction.specs.declared.Edit.{Edit}
@@ -55,15 +53,15 @@ moving_updates : (c : Change) (leaf : ObjectNumber) → is_empty (move_of c leaf
 moving_updates (Update log expected new) leaf e = refl
 moving_updates (Delete expected log) leaf e = absurd (let z : ◌≡◌ {A = ℕ} 0 1 = cc in omega arith)
 
-pub loose_shape : (k o d : Bool) (n : NameNumber) (v : OptionTarget) (w : Write) → cond (k && not o && not d) (loose_write n v) [] ≡ w ∷ []
-    → (t : Target) × (write_loose n t ≡ w) × (d ≡ false) × (v ≡ Present t)
-loose_shape true false false n Absent w e = no_write w e
-loose_shape true false false n (Present t) w e = (t, ap (head_or w) e, refl, refl)
+pub loose_shape : (k o d : Bool) (n : NameNumber) (v : Option Target) (w : Write) → cond (k && not o && not d) (loose_write n v) [] ≡ w ∷ []
+    → (t : Target) × (write_loose n t ≡ w) × (d ≡ false) × (v ≡ Some t)
+loose_shape true false false n None w e = no_write w e
+loose_shape true false false n (Some t) w e = (t, ap (head_or w) e, refl, refl)
 loose_shape true false true n v w e = no_write w e
 loose_shape true true d n v w e = no_write w e
 loose_shape false o d n v w e = no_write w e
 
-valued_updates : (c : Change) (t : Target) → new_value c ≡ Present t → is_delete c ≡ false
+valued_updates : (c : Change) (t : Target) → new_value c ≡ Some t → is_delete c ≡ false
 valued_updates (Update log expected new) t e = refl
 valued_updates (Delete expected log) t e = absurd (let z : ◌≡◌ {A = ℕ} 0 1 = cc in omega arith)
 

@@ -1,6 +1,6 @@
 -- The next write as a value, and the list of all writes by places: a place below the count of rows is that row's turn in W1; then
 -- come the rows' turns in W2, the one place of W3, and the rows' turns in W4.
-use Rattle.std.specs.Prelude.{cond, List, [], ◌∷◌, ◌++◌, map, ℕ, zero, suc, ◌+◌, ◌-◌, length, ltb, eqb}
+use Rattle.std.specs.Prelude.{Option, Some, None, cond, List, [], ◌∷◌, ◌++◌, map, ℕ, zero, suc, ◌+◌, ◌-◌, length, ltb, eqb}
 use Rattle.target.specs.declared.NameNumber.{NameNumber}
 use Rattle.transaction.specs.declared.PackedRefs.{PackedRefs}
 use Rattle.transaction.specs.declared.Edit.{Edit}
@@ -10,10 +10,9 @@ use Rattle.model.specs.Rows.{name_in, change_in, row_at}
 use Rattle.model.specs.Due.{Stamp, due_line}
 use Rattle.model.specs.Writes.{Write, PackedEdit, loose_write, writes_loose, packed_edits, w2, w3, w4}
 use Rattle.model.specs.Writes.Write.{append_line, write_loose, remove_log, write_packed, remove_loose}
-use Rattle.writes.specs.declared.OptionWrite.{OptionWrite}
-use Rattle.writes.specs.declared.OptionWrite.TheVariants.{NoWrite, AppendLine, WriteLoose, RemoveLog, WritePacked, RemoveLoose}
-use Rattle.writes.specs.declared.OptionPackedEdit.{OptionPackedEdit}
-use Rattle.writes.specs.declared.OptionPackedEdit.TheVariants.{NoPackedEdit, Sets}
+use Rattle.target.specs.declared.ObjectNumber.{ObjectNumber}
+use Rattle.writes.specs.declared.NextWrite.{NextWrite}
+use Rattle.writes.specs.declared.NextWrite.TheVariants.{AppendLine, WriteLoose, RemoveLog, WritePacked, RemoveLoose}
 
 abbrev pub rows_of : Store → List Edit
 rows_of s = rows_in s.prepared
@@ -24,20 +23,20 @@ mode_of s = mode_in s.prepared
 abbrev pub the_row : Store → ℕ → Edit
 the_row s i = row_at (rows_of s) i
 
--- ---- the code's own forms of a packed edit and of a write, which may be missing, as the lists of the definitions
+-- ---- what the code has as a packed edit or a write that may be missing, as the lists of the definitions
 
-abbrev pub packed_list : NameNumber → OptionPackedEdit → List PackedEdit
-packed_list n NoPackedEdit = []
-packed_list n (Sets v) = record { name = n; value = v } ∷ []
+abbrev pub packed_list : NameNumber → Option (Option ObjectNumber) → List PackedEdit
+packed_list n None = []
+packed_list n (Some v) = record { name = n; value = v } ∷ []
 
 -- the packed write's edits are those of the store
-unfoldable pub write_list : Store → OptionWrite → List Write
-write_list s NoWrite = []
-write_list s (AppendLine l) = append_line l ∷ []
-write_list s (WriteLoose n t) = write_loose n t ∷ []
-write_list s (RemoveLog n) = remove_log n ∷ []
-write_list s WritePacked = write_packed (packed_edits s (mode_of s) (rows_of s)) ∷ []
-write_list s (RemoveLoose n) = remove_loose n ∷ []
+unfoldable pub write_list : Store → Option NextWrite → List Write
+write_list s None = []
+write_list s (Some (AppendLine l)) = append_line l ∷ []
+write_list s (Some (WriteLoose n t)) = write_loose n t ∷ []
+write_list s (Some (RemoveLog n)) = remove_log n ∷ []
+write_list s (Some WritePacked) = write_packed (packed_edits s (mode_of s) (rows_of s)) ∷ []
+write_list s (Some (RemoveLoose n)) = remove_loose n ∷ []
 
 -- ---- the writes by places
 

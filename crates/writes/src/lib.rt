@@ -5,7 +5,7 @@
 ghost use Rattle.std.specs.Prelude.{◌≡◌, true, ◌||◌, not, map, ◌<◌, length};
 ghost use Rattle.transaction.specs.Change.{is_delete};
 ghost use Rattle.model.specs.Basic.{is_empty};
-ghost use Rattle.model.specs.Store.{count, is_none};
+ghost use Rattle.model.specs.Store.{count};
 ghost use Rattle.model.specs.Rows.{name_in, change_in, is_direct};
 ghost use Rattle.model.specs.Due.{has_lines, due_line};
 ghost use Rattle.model.specs.Demand3.{by};
@@ -16,14 +16,13 @@ ghost use Rattle.rows.specs.Rows.{Named};
 ghost use Rattle.writes.specs.Next.{rows_of, mode_of, the_row, packed_list, write_list, loose_of, first_at, second_at, places};
 ghost use Rattle.writes.specs.Told.{tells, Told};
 
-use model::{Line, Loose, OptionLine, Packed};
-use target::{NameNumber, OptionTarget, Target};
+use model::{Line, Loose};
+use target::{NameNumber, ObjectNumber, Target};
 use transaction::{Edit, PackedRefs};
 
 // Which write, and for which name. The packed write's edits are those of the rows.
 #[derive(Clone, Copy)]
-pub enum OptionWrite {
-    NoWrite,
+pub enum NextWrite {
     AppendLine(Line),
     WriteLoose(NameNumber, Target),
     RemoveLog(NameNumber),
@@ -34,122 +33,80 @@ pub enum OptionWrite {
 // ---- W1
 
 // The log line of a row, if it is due. Whether its name has lines is told by the flag.
-fn next_line(region: &[u8], flags: &[bool], committer: u16, i: usize) -> OptionWrite
+#[tactic(auto, unfolding(crate::specs::Next::write_list))]
+fn next_line(region: &[u8], flags: &[bool], committer: u16, i: usize) -> Option<NextWrite>
     requires laid { Laid region.now }
     requires i_in_bounds { i < length (rows_of (view region.now)) }
     requires i_value { tells flags.now (the_row (view region.now) i) ≡ has_lines (view region.now) (name_in (the_row (view region.now) i)) }
     ensures { write_list (view region.now) result ≡ map append_line (due_line (by committer) (view region.now) (the_row (view region.now) i)) }
 {
     let row = region::row_at(region, i);
-    let update = row.update;
-    let name = update.name;
-    let has = word::is_raised(flags, name.place());
-    let OptionLine::Line(line) = rows::due_line(region, has, committer, row) else {
-        return OptionWrite::NoWrite;
-    };
-    OptionWrite::AppendLine(line)
+    let has = word::is_raised(flags, row.update.name.place());
+    let line = rows::due_line(region, has, committer, row)?;
+    Some(NextWrite::AppendLine(line))
 }
 
 // The row's loose value, if its lock is kept, and it is not log-only and not direct.
-pub fn next_loose(region: &[u8], mode: PackedRefs, row: Edit) -> OptionWrite
+#[tactic(auto, unfolding(crate::specs::Next::write_list, crate::specs::Next::loose_of))]
+pub fn next_loose(region: &[u8], mode: PackedRefs, row: Edit) -> Option<NextWrite>
     requires { Laid region.now }
     ensures { write_list (view region.now) result ≡ loose_of (view region.now) mode row }
 {
-    let update = row.update;
-    let change = update.change;
-    if !rows::keeps_lock(region, mode, row) {
-        return OptionWrite::NoWrite;
+    if !rows::keeps_lock(region, mode, row)
+        || row.update.change.is_log_only()
+        || rows::is_direct(region, mode, row)
+    {
+        return None;
     }
-    if change.is_log_only() {
-        return OptionWrite::NoWrite;
-    }
-    if rows::is_direct(region, mode, row) {
-        return OptionWrite::NoWrite;
-    }
-    let OptionTarget::Present(t) = change.new_value() else {
-        return OptionWrite::NoWrite;
-    };
-    let name = update.name;
-    OptionWrite::WriteLoose(name, t)
+    let t = row.update.change.new_value()?;
+    Some(NextWrite::WriteLoose(row.update.name, t))
 }
 
 // ---- W2
 
 // The log of a deleted name, if it has one, as the flag tells.
-#[tactic(auto, using(crate::proofs::Says::log_none))]
-fn next_log(region: &[u8], flags: &[bool], i: usize) -> OptionWrite
+#[tactic(auto, unfolding(crate::specs::Next::write_list, model::specs::Writes::w2))]
+fn next_log(region: &[u8], flags: &[bool], i: usize) -> Option<NextWrite>
     requires laid { Laid region.now }
     requires i_in_bounds { i < length (rows_of (view region.now)) }
     requires i_value { is_delete (change_in (the_row (view region.now) i)) ≡ true → tells flags.now (the_row (view region.now) i) ≡ has_lines (view region.now) (name_in (the_row (view region.now) i)) }
     ensures { write_list (view region.now) result ≡ w2 (view region.now) (the_row (view region.now) i) }
 {
     let row = region::row_at(region, i);
-    let update = row.update;
-    let change = update.change;
-    let name = update.name;
-    if !change.is_delete() {
-        return OptionWrite::NoWrite;
+    let name = row.update.name;
+    if !row.update.change.is_delete() || !word::is_raised(flags, name.place()) {
+        return None;
     }
-    if !word::is_raised(flags, name.place()) {
-        return OptionWrite::NoWrite;
-    }
-    OptionWrite::RemoveLog(name)
+    Some(NextWrite::RemoveLog(name))
 }
 
 // ---- W3
 
-// What becomes of a name's packed value.
-#[derive(Clone, Copy)]
-pub enum OptionPackedEdit {
-    NoPackedEdit,
-    Sets(Packed),
-}
-
-fn packed_set(name: NameNumber, new: OptionTarget) -> OptionPackedEdit
+// What becomes of a name's packed value, if anything does: another object, or none.
+fn packed_set(name: NameNumber, new: Option<Target>) -> Option<Option<ObjectNumber>>
     ensures { packed_list name result ≡ packed_set name new }
 {
-    let OptionTarget::Present(t) = new else {
-        return OptionPackedEdit::NoPackedEdit;
-    };
-    match t {
-        Target::Object(oid) => OptionPackedEdit::Sets(Packed::Object(oid)),
-        Target::Symbolic(_) => OptionPackedEdit::NoPackedEdit,
-    }
+    Some(Some(new?.try_id()?))
 }
 
 // What the packed write does to the row's name: an object is set in modes 2 and 3, a deleted name's value goes.
-pub fn packed_edit(region: &[u8], mode: PackedRefs, row: Edit) -> OptionPackedEdit
+#[tactic(auto, unfolding(model::specs::Writes::packed_edit))]
+pub fn packed_edit(region: &[u8], mode: PackedRefs, row: Edit) -> Option<Option<ObjectNumber>>
     requires laid { Laid region.now }
     requires row_bound { (name_in row).0 < count (view region.now) }
     ensures { packed_list (name_in row) result ≡ packed_edit (view region.now) mode row }
 {
-    let update = row.update;
-    let change = update.change;
-    let name = update.name;
+    let name = row.update.name;
     if !rows::counts_row(region, row) {
-        return OptionPackedEdit::NoPackedEdit;
+        return None;
     }
-    if change.is_delete() {
-        if kept::is_packed(region::packed_at(region, name)) {
-            return OptionPackedEdit::Sets(Packed::None);
-        }
-        return OptionPackedEdit::NoPackedEdit;
+    if row.update.change.is_delete() {
+        return kept::is_packed(region::packed_at(region, name)).then_some(None);
     }
-    if mode.number() < 2 {
-        return OptionPackedEdit::NoPackedEdit;
+    if mode == PackedRefs::DeletionsOnly {
+        return None;
     }
-    packed_set(name, change.new_value())
-}
-
-fn has_edit(region: &[u8], mode: PackedRefs, row: Edit) -> bool
-    requires laid { Laid region.now }
-    requires row_bound { (name_in row).0 < count (view region.now) }
-    ensures { result ≡ not (is_empty (packed_edit (view region.now) mode row)) }
-{
-    let OptionPackedEdit::Sets(_) = packed_edit(region, mode, row) else {
-        return false;
-    };
-    true
+    packed_set(name, row.update.change.new_value())
 }
 
 fn any_edit(region: &[u8]) -> bool
@@ -159,31 +116,25 @@ fn any_edit(region: &[u8]) -> bool
 {
     let mode = region::mode(region);
     let rows = region::count_rows(region);
-    let mut i: usize = 0;
-    while i < rows {
-        let yes = has_edit(region, mode, region::row_at(region, i));
-        if yes {
+    for i in 0..rows {
+        if packed_edit(region, mode, region::row_at(region, i)).is_some() {
             return true;
-        } else {
-            i += 1;
         }
     }
     false
 }
 
 // One packed write, if the table is opened and something is to be set or removed.
-pub fn next_packed(region: &[u8]) -> OptionWrite
+#[tactic(auto, unfolding(crate::specs::Next::write_list, model::specs::Writes::w3))]
+pub fn next_packed(region: &[u8]) -> Option<NextWrite>
     requires laid { Laid region.now }
     requires named { Named (view region.now) }
     ensures { write_list (view region.now) result ≡ w3 (view region.now) (mode_of (view region.now)) (rows_of (view region.now)) }
 {
-    if !kept::opens_table(region) {
-        return OptionWrite::NoWrite;
+    if !kept::opens_table(region) || !any_edit(region) {
+        return None;
     }
-    if !any_edit(region) {
-        return OptionWrite::NoWrite;
-    }
-    OptionWrite::WritePacked
+    Some(NextWrite::WritePacked)
 }
 
 // ---- W4
@@ -192,50 +143,32 @@ fn goes(region: &[u8], mode: PackedRefs, row: Edit) -> bool
     requires { Laid region.now }
     ensures { result ≡ (is_delete (change_in row) || is_direct (view region.now) mode row) }
 {
-    let update = row.update;
-    let change = update.change;
-    if change.is_delete() {
-        return true;
-    }
-    rows::is_direct(region, mode, row)
-}
-
-fn is_none(v: Loose) -> bool
-    ensures { result ≡ is_none v }
-{
-    match v {
-        Loose::None => true,
-        Loose::Target(_) => false,
-        Loose::Broken => false,
-    }
+    row.update.change.is_delete() || rows::is_direct(region, mode, row)
 }
 
 // The loose value, broken or not, of a deletion or of a direct row, where the row is not log-only.
-pub fn next_gone(region: &[u8], mode: PackedRefs, row: Edit) -> OptionWrite
+#[tactic(auto, unfolding(crate::specs::Next::write_list, model::specs::Writes::w4))]
+pub fn next_gone(region: &[u8], mode: PackedRefs, row: Edit) -> Option<NextWrite>
     requires laid { Laid region.now }
     requires row_bound { (name_in row).0 < count (view region.now) }
     ensures { write_list (view region.now) result ≡ w4 (view region.now) mode row }
 {
-    let update = row.update;
-    let change = update.change;
-    let name = update.name;
-    if !goes(region, mode, row) {
-        return OptionWrite::NoWrite;
+    let name = row.update.name;
+    if !goes(region, mode, row)
+        || row.update.change.is_log_only()
+        || region::loose_at(region, name) == Loose::None
+    {
+        return None;
     }
-    if change.is_log_only() {
-        return OptionWrite::NoWrite;
-    }
-    if is_none(region::loose_at(region, name)) {
-        return OptionWrite::NoWrite;
-    }
-    OptionWrite::RemoveLoose(name)
+    Some(NextWrite::RemoveLoose(name))
 }
 
 // ---- by places
 
 // The write of a place; in W1 the first of two. The flags were raised before the first write: they tell of every row whose line or log
 // is still to be decided whether its name has lines.
-pub fn next_first(region: &[u8], flags: &[bool], committer: u16, k: usize) -> OptionWrite
+#[tactic(auto, unfolding(crate::specs::Next::first_at))]
+pub fn next_first(region: &[u8], flags: &[bool], committer: u16, k: usize) -> Option<NextWrite>
     requires laid { Laid region.now }
     requires named { Named (view region.now) }
     requires told { Told flags.now (view region.now) (rows_of (view region.now)) k }
@@ -254,19 +187,17 @@ pub fn next_first(region: &[u8], flags: &[bool], committer: u16, k: usize) -> Op
         return next_packed(region);
     }
     let i = j - rows - 1;
-    let mode = region::mode(region);
-    next_gone(region, mode, region::row_at(region, i))
+    next_gone(region, region::mode(region), region::row_at(region, i))
 }
 
 // The second write of a place, in W1.
-pub fn next_second(region: &[u8], k: usize) -> OptionWrite
+#[tactic(auto, unfolding(crate::specs::Next::write_list, crate::specs::Next::second_at))]
+pub fn next_second(region: &[u8], k: usize) -> Option<NextWrite>
     requires { Laid region.now }
     ensures { write_list (view region.now) result ≡ second_at (view region.now) k }
 {
-    let rows = region::count_rows(region);
-    if k < rows {
-        let mode = region::mode(region);
-        return next_loose(region, mode, region::row_at(region, k));
+    if k >= region::count_rows(region) {
+        return None;
     }
-    OptionWrite::NoWrite
+    next_loose(region, region::mode(region), region::row_at(region, k))
 }

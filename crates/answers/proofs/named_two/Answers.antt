@@ -1,5 +1,6 @@
+use mathlib.Core.Path.{◌∙◌}
 use Rattle.answers.proofs.named_two.Goals as goal
 
 -- src/lib.rt:184:1
 pub returns : goal.returns
-returns c = simp (c.byte.ensures, c.number.ensures, c.byte-2.ensures, c.number-2.ensures)
+returns c = c.new.ensures ∙ simp (c.from.ensures, c.target_byte.ensures, c.target_number.ensures, c.target_byte-2.ensures, c.target_number-2.ensures)

@@ -1,5 +1,5 @@
 use mathlib.Core.Path.{◌≡◌}
-use Prim.Native.Nat.{◌*◌, ◌-◌, ◌≤◌}
+use Prim.Native.Nat.{◌*◌, ◌≤◌}
 use lib.ListN.{length, take}
 use Rattle.word.specs.Be.{be}
 use Rattle.model.specs.Basic.{collect}
@@ -9,6 +9,3 @@ use Rattle.answers.proofs.put_places.Given as goal
 abbrev pub invariant-loop-i : goal.invariant-loop-i
 invariant-loop-i l =
     (l.i ≤ 16) × (length l.answer ≡ 128) × (length l.places ≡ 16) × (take (l.i * 8) l.answer ≡ collect (be 8) (take l.i l.places))
-
-abbrev pub decreases-loop-i : goal.decreases-loop-i
-decreases-loop-i l = 16 - l.i

@@ -1,4 +1,3 @@
-use Prim.Native.Nat.{◌-◌}
 use Rattle.word.proofs.Tests.{Unmet}
 use Rattle.region.specs.Region.{view}
 use Rattle.beneath.specs.Facing.{facing}
@@ -6,6 +5,3 @@ use Rattle.beneath.proofs.any_facing.Given as goal
 
 abbrev pub invariant-loop-m : goal.invariant-loop-m
 invariant-loop-m l = Unmet (facing l.up (view l.region) l.name.0) l.count l.m
-
-abbrev pub decreases-loop-m : goal.decreases-loop-m
-decreases-loop-m l = l.count - l.m

@@ -1,4 +1,3 @@
-use Prim.Native.Nat.{◌-◌}
 use Rattle.committing.proofs.Loop.{before_start, before_laid, before_named, before_apart, before_told, before_place, before_made, before_room, place_done, ran_out}
 use Rattle.committing.proofs.commit_places.Goals as goal
 

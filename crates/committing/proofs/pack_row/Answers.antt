@@ -12,5 +12,5 @@ returns-in_default c = search pack_none
 pub put_packed_at-requires : goal.put_packed_at-requires
 put_packed_at-requires c = search (rules, row_named, edit_fits)
 
-pub returns : goal.returns
-returns c = search pack_set
+pub returns-in-Some : goal.returns-in-Some
+returns-in-Some c = search pack_set

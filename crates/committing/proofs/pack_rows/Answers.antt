@@ -1,5 +1,4 @@
 use borrow.Author.Rules.{rules}
-use Prim.Native.Nat.{◌-◌}
 use Rattle.committing.proofs.Packing.{packing_start, packing_named, packing_place, packing_more, packing_end}
 use Rattle.committing.proofs.pack_rows.Goals as goal
 

@@ -1,10 +1,6 @@
-use Prim.Native.Nat.{◌-◌}
-use lib.ListN.{length}
-use Rattle.edits.proofs.Lists.{Left}
+use mathlib.Core.Path.{◌≡◌}
+use Rattle.edits.proofs.Lists.{Left, Rest}
 use Rattle.edits.proofs.are_edits.Given as goal
 
-abbrev pub invariant-loop-at : goal.invariant-loop-at
-invariant-loop-at l = Left l.list l.at
-
-abbrev pub decreases-loop-at : goal.decreases-loop-at
-decreases-loop-at l = length l.list - l.at
+abbrev pub invariant-loop-record : goal.invariant-loop-record
+invariant-loop-record l = Rest (Left l.list) l.list l.record-iterator.rest.now × (l.record-iterator.size ≡ 27)

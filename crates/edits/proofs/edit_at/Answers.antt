@@ -1,4 +1,4 @@
-use Rattle.edits.proofs.Lists.{times_fits, place_fits, end_fits, record_room, edit_not, edit_is}
+use Rattle.edits.proofs.Lists.{times_fits, place_fits, end_fits, record_room, registered_or}
 use Rattle.edits.proofs.edit_at.Goals as goal
 
 pub overflow_mul-at : goal.overflow_mul-at
@@ -13,8 +13,5 @@ overflow_add-e c = search end_fits
 pub slice_bounds-get_edit-end : goal.slice_bounds-get_edit-end
 slice_bounds-get_edit-end c = search record_room
 
-pub returns-in_default : goal.returns-in_default
-returns-in_default c = search edit_not
-
 pub returns : goal.returns
-returns c = search edit_is
+returns c = registered_or _ _ _ c.requires.registered c.requires.i_in_bounds c.get_edit.ensures _ _ c.unwrap_or.ensures

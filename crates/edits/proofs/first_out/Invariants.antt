@@ -1,10 +1,6 @@
-use Prim.Native.Nat.{◌-◌}
-use lib.ListN.{length}
-use Rattle.edits.proofs.Lists.{Ahead}
+use mathlib.Core.Path.{◌≡◌}
+use Rattle.edits.proofs.Lists.{Ahead, Rest}
 use Rattle.edits.proofs.first_out.Given as goal
 
-abbrev pub invariant-loop-at : goal.invariant-loop-at
-invariant-loop-at l = Ahead l.names l.list l.at
-
-abbrev pub decreases-loop-at : goal.decreases-loop-at
-decreases-loop-at l = length l.list - l.at
+abbrev pub invariant-loop-record : goal.invariant-loop-record
+invariant-loop-record l = Rest (Ahead l.names l.list) l.list l.record-iterator.rest.now × (l.record-iterator.size ≡ 27)

@@ -10,7 +10,7 @@ returns-then-byte_at-ne-VERSION c = search frame_version
 
 pub overflow_add-get_at : goal.overflow_add-get_at
 overflow_add-get_at c =
-    let l = length_fits c.args.list.now c.shared_slice_known-1.given _ c.get_at.ensures in
+    let l = length_fits c.args.list.now c.type_inv.list _ c.get_at.ensures in
     search rules
 
 pub returns-then-get_at-list : goal.returns-then-get_at-list
@@ -22,4 +22,4 @@ returns-then-count-gt-LIMIT c =
 
 pub returns : goal.returns
 returns c =
-    search (frame_rest c.args.list.now c.shared_slice_known-1.given)
+    search (frame_rest c.args.list.now c.type_inv.list)

@@ -10,7 +10,3 @@ overflow_add-at c = search slot_from
 pub slots_ok-requires-clause-width_in_bounds : goal.slots_ok-requires-clause-width_in_bounds
 slots_ok-requires-clause-width_in_bounds c =
     search slot_ends
-
-pub slots_ok-requires-2-clause-width_in_bounds : goal.slots_ok-requires-2-clause-width_in_bounds
-slots_ok-requires-2-clause-width_in_bounds c =
-    search slot_ends

@@ -1,5 +1,4 @@
 use mathlib.Core.Path.{◌≡◌}
-use Prim.Native.Nat.{◌-◌}
 use lib.ListN.{drop}
 use Rattle.region.specs.Region.{view}
 use Rattle.model.specs.Basic.{any}
@@ -9,6 +8,3 @@ use Rattle.kept.proofs.any_counting.Given as goal
 
 abbrev pub invariant-loop-i : goal.invariant-loop-i
 invariant-loop-i l = any (counting l.update (view l.region)) (drop l.i (rows_in (view l.region).prepared)) ≡ any (counting l.update (view l.region)) (rows_in (view l.region).prepared)
-
-abbrev pub decreases-loop-i : goal.decreases-loop-i
-decreases-loop-i l = l.rows - l.i

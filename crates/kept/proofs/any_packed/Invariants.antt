@@ -1,5 +1,4 @@
 use mathlib.Core.Path.{◌≡◌}
-use Prim.Native.Nat.{◌-◌}
 use lib.ListN.{drop}
 use Rattle.region.specs.Region.{view}
 use Rattle.model.specs.Basic.{any}
@@ -8,6 +7,3 @@ use Rattle.kept.proofs.any_packed.Given as goal
 
 abbrev pub invariant-loop-n : goal.invariant-loop-n
 invariant-loop-n l = any (λ (e : Entry). is_packed e.packed) (drop l.n (view l.region).entries) ≡ any (λ (e : Entry). is_packed e.packed) (view l.region).entries
-
-abbrev pub decreases-loop-n : goal.decreases-loop-n
-decreases-loop-n l = l.count - l.n

@@ -1,4 +1,3 @@
-use Prim.Native.Nat.{◌-◌}
 use Rattle.region.specs.Region.{view}
 use Rattle.model.specs.Store.{rows_in}
 use Rattle.model.specs.Rows.{keeps_lock}
@@ -8,6 +7,3 @@ use Rattle.kept.proofs.flag_rows.Given as goal
 
 abbrev pub invariant-loop-i : goal.invariant-loop-i
 invariant-loop-i l = Gathering of_row (keeps_lock (view l.region) l.mode) (rows_in (view l.region).prepared) l.i l.flags
-
-abbrev pub decreases-loop-i : goal.decreases-loop-i
-decreases-loop-i l = l.rows - l.i

@@ -1,13 +1,9 @@
 use mathlib.Core.Path.{◌≡◌}
 use mathlib.Core.Bool.{true}
-use Prim.Native.Nat.{◌-◌, ◌≤◌}
 use Rattle.region.specs.Region.{view}
 use Rattle.model.specs.Basic.{below}
 use Rattle.model.specs.Fine.{fine_lock}
 use Rattle.kept.proofs.flagged_locks_fine.Given as goal
 
 abbrev pub invariant-loop-n : goal.invariant-loop-n
-invariant-loop-n l = (l.n ≤ l.count) × (below l.n (fine_lock (view l.region)) ≡ true)
-
-abbrev pub decreases-loop-n : goal.decreases-loop-n
-decreases-loop-n l = l.count - l.n
+invariant-loop-n l = below l.n (fine_lock (view l.region)) ≡ true

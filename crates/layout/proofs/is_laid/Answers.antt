@@ -1,4 +1,4 @@
-use Rattle.layout.proofs.Laws.{layout_size, layout_head, head_passed, layout_tables}
+use Rattle.layout.proofs.Laws.{layout_size, layout_head, layout_tables}
 use Rattle.layout.proofs.is_laid.Goals as goal
 
 pub returns-then-region-ne-SIZE : goal.returns-then-region-ne-SIZE
@@ -6,10 +6,6 @@ returns-then-region-ne-SIZE c = search layout_size
 
 pub returns-then-not-head_ok : goal.returns-then-not-head_ok
 returns-then-not-head_ok c = search layout_head
-
-pub tables_ok-requires-clause-region_value : goal.tables_ok-requires-clause-region_value
-tables_ok-requires-clause-region_value c =
-    search head_passed
 
 pub returns : goal.returns
 returns c = search layout_tables

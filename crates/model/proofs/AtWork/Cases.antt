@@ -1,15 +1,13 @@
 -- Tables of worked examples: how a store is made by calls, what is asked of it, and what must come back.
+use Rattle.std.specs.Prelude.{Option, Some, None}
 use mathlib.Core.Path.{◌≡◌}
 use mathlib.Core.List.{List, [], ◌∷◌, ◌++◌, map}
-use mathlib.Core.Option.{Option, none, some}
 use Prim.Native.Nat.{ℕ, zero, suc, ◌+◌, ◌*◌}
 use Prim.Native.String.{String}
 use lib.ListN.{length}
 use Rattle.word.specs.Be.{be}
 use Rattle.target.specs.declared.Target.{Target}
 use Rattle.target.specs.declared.Target.TheVariants.{Object, Symbolic}
-use Rattle.target.specs.declared.OptionTarget.{OptionTarget}
-use Rattle.model.specs.declared.Packed.TheVariants as packed
 use Rattle.model.specs.declared.WriteReflog.TheVariants.{Normal}
 use Rattle.model.specs.Basic.{text, collect}
 use Rattle.model.specs.Store.{Store, empty}
@@ -103,10 +101,10 @@ abbrev pub log_goes : ℕ → Write
 log_goes n = remove_log (record { 0 = n })
 
 abbrev pub packed_becomes : ℕ → ℕ → PackedEdit
-packed_becomes n o = record { name = record { 0 = n }; value = packed.Object (record { 0 = o }) }
+packed_becomes n o = record { name = record { 0 = n }; value = Some (record { 0 = o }) }
 
 abbrev pub packed_goes : ℕ → PackedEdit
-packed_goes n = record { name = record { 0 = n }; value = packed.None }
+packed_goes n = record { name = record { 0 = n }; value = None }
 
 -- values, as a name reads them
 abbrev pub the : ℕ → Target
@@ -125,7 +123,7 @@ pub data Ask : Type 0 where
 pub data Seen : Type 0 where
   answered : Answer → Seen
   written : List Write → Seen
-  readings : List OptionTarget → Seen
+  readings : List (Option Target) → Seen
 
 abbrev pub committer1 : Stamp
 committer1 = record { committer = 1 }
@@ -136,7 +134,7 @@ leaves (stopped why s made) t = s
 leaves (refused r) t = t
 
 -- what the name reads after commit with k, k + 1, .. writes allowed
-abbrev pub stopping : ℕ → ℕ → ℕ → Store → List OptionTarget
+abbrev pub stopping : ℕ → ℕ → ℕ → Store → List (Option Target)
 stopping n zero k s = reading (leaves (step (commit 1 k) s) s) (record { 0 = n }) ∷ []
 stopping n (suc left) k s = reading (leaves (step (commit 1 k) s) s) (record { 0 = n }) ∷ stopping n left (k + 1) s
 
@@ -165,7 +163,7 @@ c ⇒ a = record { ask = call c; seen = answered a }
 abbrev pub in_order : List Write → Line
 in_order ws = record { ask = ordered_writes; seen = written ws }
 
-abbrev pub at_every_stop : ℕ → List OptionTarget → Line
+abbrev pub at_every_stop : ℕ → List (Option Target) → Line
 at_every_stop n ts = record { ask = reads_at_every_stop n; seen = readings ts }
 
 pub record Case : Type 0 where
@@ -176,25 +174,25 @@ pub record Case : Type 0 where
 
 -- every call that makes the store is done, or there is no store
 abbrev pub done_with : Reply → Option Store
-done_with (done s g) = some s
-done_with (stopped why s made) = none
-done_with (refused r) = none
+done_with (done s g) = Some s
+done_with (stopped why s made) = None
+done_with (refused r) = None
 
 abbrev pub making : List Call → Option Store → Option Store
 making [] s = s
-making (c ∷ cs) none = none
-making (c ∷ cs) (some s) = making cs (done_with (step c s))
+making (c ∷ cs) None = None
+making (c ∷ cs) (Some s) = making cs (done_with (step c s))
 
 abbrev pub asking : List Line → Store → List Seen
 asking [] s = []
 asking (l ∷ ls) s = asked l.ask s ∷ asking ls (after l.ask s)
 
 abbrev pub asking_of : List Line → Option Store → List Seen
-asking_of ls none = []
-asking_of ls (some s) = asking ls s
+asking_of ls None = []
+asking_of ls (Some s) = asking ls s
 
 abbrev pub seen_in : Case → List Seen
-seen_in c = asking_of c.lines (making c.made (some c.store))
+seen_in c = asking_of c.lines (making c.made (Some c.store))
 
 abbrev pub wanted_in : Case → List Seen
 wanted_in c = map (λ (l : Line). l.seen) c.lines

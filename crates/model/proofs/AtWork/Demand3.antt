@@ -1,15 +1,14 @@
 -- Demand 3 and the rules at work: the statements of specs/Demand3.antt as tests that compute, passed by stores that the tables of
 -- examples make. The theorems hold of every reached store; these show at a glance which sentence a changed definition breaks.
 -- Assumes nothing.
+use Rattle.std.specs.Prelude.{Option, Some, None}
+use Rattle.target.specs.declared.Target.{Target}
 use mathlib.Core.Path.{◌≡◌, refl}
 use mathlib.Core.Bool.{Bool, true, false, ◌&&◌, ◌||◌, not, cond}
 use mathlib.Core.List.{List, [], ◌∷◌, ◌++◌, map}
-use mathlib.Core.Option.{Option, none, some}
 use Prim.Native.Nat.{ℕ, zero, suc}
 use lib.ListN.{length, take}
 use lib.Dec.{leb, eqb}
-use Rattle.target.specs.declared.OptionTarget.{OptionTarget}
-use Rattle.target.specs.declared.OptionTarget.TheVariants.{Absent}
 use Rattle.target.specs.Target.{same_option}
 use Rattle.transaction.specs.declared.Edit.{Edit}
 use Rattle.transaction.specs.Change.{is_delete}
@@ -54,12 +53,12 @@ transactions =
 
 -- a case whose calls are not all done counts for nothing, so there must be as many stores
 abbrev with_store : Option Store → List Store → List Store
-with_store none ss = ss
-with_store (some s) ss = s ∷ ss
+with_store None ss = ss
+with_store (Some s) ss = s ∷ ss
 
 abbrev stores_of : List (List Call) → List Store
 stores_of [] = []
-stores_of (cs ∷ css) = with_store (making cs (some blank)) (stores_of css)
+stores_of (cs ∷ css) = with_store (making cs (Some blank)) (stores_of css)
 
 abbrev stores : List Store
 stores = stores_of transactions
@@ -84,8 +83,8 @@ numbers s =
     ++ collect (λ (l : Line). l.name.0 ∷ l.previous.0 ∷ l.new.0 ∷ l.committer ∷ l.message ∷ []) s.lines
 
 abbrev counts : Option ℕ → ℕ → Bool
-counts none k = false
-counts (some n) k = eqb n k
+counts None k = false
+counts (Some n) k = eqb n k
 
 abbrev stopped_at : Store → ℕ → Bool
 stopped_at s k =
@@ -103,7 +102,7 @@ untouched s n =
     || all (λ (k : ℕ). same_option (reading (stop_at 1 k s) (record { 0 = n })) (reading s (record { 0 = n }))) (stops 1 s)
 
 -- c: old, then new, and never back
-abbrev switches : OptionTarget → OptionTarget → List OptionTarget → Bool
+abbrev switches : Option Target → Option Target → List (Option Target) → Bool
 switches x y [] = true
 switches x y (v ∷ vs) = cond (same_option v y) (all (same_option y) vs) (same_option v x && switches x y vs)
 
@@ -112,7 +111,7 @@ switches_once s r = switches (old s r) (new s r) (map (λ (k : ℕ). reading (st
 
 -- d: no log left once a deletion shows
 abbrev shows : Store → ℕ → Edit → Bool
-shows s k r = is_delete (change_in r) && not (same_option (old s r) Absent) && same_option (reading (stop_at 1 k s) (name_in r)) Absent
+shows s k r = is_delete (change_in r) && not (same_option (old s r) None) && same_option (reading (stop_at 1 k s) (name_in r)) None
 
 abbrev logless : Store → ℕ → Bool
 logless s k = all (λ (r : Edit). not (shows s k r) || is_empty (lines_of (stop_at 1 k s) (name_in r))) (rows s)

@@ -1,9 +1,9 @@
 -- The marked examples P1 to P11: one table, and the claim that every line of it comes out so.
 -- Names 0 `HEAD`, 1 `refs/heads/aisle`; HEAD loose links to 1; setting 1; mode 1.
+use Rattle.std.specs.Prelude.{Some, None}
 use mathlib.Core.Path.{refl}
 use mathlib.Core.List.{List, [], ◌∷◌, ◌++◌}
 use Prim.Native.Nat.{ℕ, zero, suc, ◌+◌}
-use Rattle.target.specs.declared.OptionTarget.TheVariants.{Absent, Present}
 use Rattle.model.specs.Basic.{text}
 use Rattle.model.specs.Writes.Write.{write_packed}
 use Rattle.model.specs.Reply.{Call}
@@ -126,7 +126,7 @@ marked =
       lines =
           prepare (list (delete aisle ∷ [])) 1 ⇒ answer 0 (1 ∷ [])
           ∷ in_order (write_packed (packed_goes aisle ∷ []) ∷ loose_goes aisle ∷ [])
-          ∷ at_every_stop aisle (Present (the 5) ∷ Present (the 5) ∷ Absent ∷ [])
+          ∷ at_every_stop aisle (Some (the 5) ∷ Some (the 5) ∷ None ∷ [])
           ∷ [];
     }
     ∷ record {

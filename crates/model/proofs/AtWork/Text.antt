@@ -1,8 +1,8 @@
 -- The example of docs/PACKED-TEXT.md: the text of its store, what git's text does to it, and the lines that are refused. The same claim:
 -- every line comes out so.
+use Rattle.std.specs.Prelude.{Option, Some, None}
 use mathlib.Core.Path.{◌≡◌, refl}
 use mathlib.Core.List.{List, [], ◌∷◌, ◌++◌}
-use mathlib.Core.Option.{Option, none, some}
 use Prim.Native.Nat.{ℕ}
 use Prim.Native.String.{String}
 use Rattle.model.specs.Basic.{text}
@@ -53,8 +53,8 @@ abbrev gits : List ℕ
 gits = front ++ line "0000000000000000000000000000000000000003 refs/tags/2026-12"
 
 abbrev text_of : Option Store → List ℕ
-text_of none = []
-text_of (some s) = packed_text s
+text_of None = []
+text_of (Some s) = packed_text s
 
 unfoldable pub open_text : Unit {0}
 unfolding open_all digits_on ref_line packed_table packed_text digits_from ref_in is_peeled line_said read_lines read_text unpacked ref_loaded loaded text_written text_read
@@ -62,7 +62,7 @@ open_text = tt
 
 -- ---- written
 
-pub written : text_of (making stored (some blank)) ≡ ours
+pub written : text_of (making stored (Some blank)) ≡ ours
 unfolding open_text
 written = refl
 

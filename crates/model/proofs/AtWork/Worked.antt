@@ -1,10 +1,10 @@
 -- A second table, for what the marked examples leave: each refusal, the packing modes write by write, and the corners of the
 -- rules. The same claim: every line of it comes out so.
+use Rattle.std.specs.Prelude.{Some, None}
 use mathlib.Core.Path.{refl}
 use mathlib.Core.List.{List, [], ◌∷◌, ◌++◌}
 use Prim.Native.Nat.{ℕ, zero, suc, ◌+◌, ◌/◌, ◌%◌}
 use lib.ListN.{replicate}
-use Rattle.target.specs.declared.OptionTarget.TheVariants.{Absent, Present}
 use Rattle.model.specs.declared.Line.{Line}
 use Rattle.model.specs.Basic.{text}
 use Rattle.model.specs.Store.{Store, Entry, with_entries, with_lines}
@@ -238,7 +238,7 @@ worked =
           place_lock 0 aisle ⇒ answer 20 []
           ∷ lift_lock 0 aisle ⇒ answer 20 []
           ∷ in_order (write_packed (packed_becomes aisle 7 ∷ []) ∷ loose_goes aisle ∷ [])
-          ∷ at_every_stop aisle (Present (the 7) ∷ Present (the 7) ∷ Present (the 7) ∷ [])
+          ∷ at_every_stop aisle (Some (the 7) ∷ Some (the 7) ∷ Some (the 7) ∷ [])
           ∷ [];
     }
     ∷ record {
@@ -286,8 +286,8 @@ worked =
           ∷ write_packed (packed_goes bay ∷ packed_becomes aisle 7 ∷ [])
           ∷ loose_goes bay
           ∷ [])
-          ∷ at_every_stop aisle (Absent ∷ Absent ∷ Present (the 7) ∷ Present (the 7) ∷ Present (the 7) ∷ Present (the 7) ∷ [])
-          ∷ at_every_stop bay (Present (the 4) ∷ Present (the 4) ∷ Present (the 4) ∷ Present (the 4) ∷ Absent ∷ Absent ∷ [])
+          ∷ at_every_stop aisle (None ∷ None ∷ Some (the 7) ∷ Some (the 7) ∷ Some (the 7) ∷ Some (the 7) ∷ [])
+          ∷ at_every_stop bay (Some (the 4) ∷ Some (the 4) ∷ Some (the 4) ∷ Some (the 4) ∷ None ∷ None ∷ [])
           ∷ commit 1 5 ⇒ answer 0 (5 ∷ [])
           ∷ [];
     }
@@ -304,8 +304,8 @@ worked =
           ∷ write_packed (packed_becomes aisle 7 ∷ [])
           ∷ loose_goes aisle
           ∷ [])
-          ∷ at_every_stop aisle (Present (the 5) ∷ Present (the 5) ∷ Present (the 5) ∷ Present (the 5) ∷ Present (the 7) ∷ [])
-          ∷ at_every_stop bay (Absent ∷ Absent ∷ Present (to aisle) ∷ Present (to aisle) ∷ Present (to aisle) ∷ [])
+          ∷ at_every_stop aisle (Some (the 5) ∷ Some (the 5) ∷ Some (the 5) ∷ Some (the 5) ∷ Some (the 7) ∷ [])
+          ∷ at_every_stop bay (None ∷ None ∷ Some (to aisle) ∷ Some (to aisle) ∷ Some (to aisle) ∷ [])
           ∷ [];
     }
     ∷ record {
@@ -314,7 +314,7 @@ worked =
       made = site ++ (load_loose HEAD 1 5 ∷ prepare (list (update HEAD (object 7) ∷ [])) 3 ∷ []);
       lines =
           in_order (log_moves HEAD 5 7 ∷ loose_becomes HEAD (the 7) ∷ [])
-          ∷ at_every_stop HEAD (Present (the 5) ∷ Present (the 5) ∷ Present (the 7) ∷ [])
+          ∷ at_every_stop HEAD (Some (the 5) ∷ Some (the 5) ∷ Some (the 7) ∷ [])
           ∷ [];
     }
     ∷ record {

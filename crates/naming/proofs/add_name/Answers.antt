@@ -12,8 +12,8 @@ returns-then-not-is_name c = search add_bad
 pub find_name-requires : goal.find_name-requires
 find_name-requires c = search good_laid
 
-pub returns-in-Name : goal.returns-in-Name
-returns-in-Name c = search add_found
+pub returns-in-Some : goal.returns-in-Some
+returns-in-Some c = search add_found
 
 pub count_names-n-requires : goal.count_names-n-requires
 count_names-n-requires c = search good_laid

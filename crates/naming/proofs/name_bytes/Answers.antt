@@ -5,20 +5,20 @@ use Rattle.naming.proofs.name_bytes.Goals as goal
 pub returns-then-not-is_good : goal.returns-then-not-is_good
 returns-then-not-is_good c = search bad_region
 
-pub part_of-part-requires : goal.part_of-part-requires
-part_of-part-requires c = search tested
+pub part_of-requires : goal.part_of-requires
+part_of-requires c = search tested
 
-pub overflow_mul-name : goal.overflow_mul-name
-overflow_mul-name c = search fits_product
+pub returns-then-length-eq0 : goal.returns-then-length-eq0
+returns-then-length-eq0 c = search bytes_far
 
-pub overflow_add-name : goal.overflow_add-name
-overflow_add-name c = search fits_base
+pub overflow_mul-at : goal.overflow_mul-at
+overflow_mul-at c = search fits_product
 
-pub overflow_add-name-then-length-ne0 : goal.overflow_add-name-then-length-ne0
-overflow_add-name-then-length-ne0 c = search fits_offset
+pub overflow_add-at : goal.overflow_add-at
+overflow_add-at c = search fits_base
 
-pub returns-then-length-ne0 : goal.returns-then-length-ne0
-returns-then-length-ne0 c = search bytes_done
+pub overflow_add-at-2 : goal.overflow_add-at-2
+overflow_add-at-2 c = search fits_offset
 
 pub returns : goal.returns
-returns c = search bytes_far
+returns c = search bytes_done

@@ -1,4 +1,3 @@
-use Prim.Native.Nat.{◌-◌}
 use Rattle.nests.proofs.Laws.{loose_start, loose_more, loose_end}
 use Rattle.nests.proofs.flag_loose.Goals as goal
 

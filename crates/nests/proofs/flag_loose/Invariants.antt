@@ -1,4 +1,3 @@
-use Prim.Native.Nat.{◌-◌}
 use Rattle.region.specs.Region.{view}
 use Rattle.nests.proofs.Raising.{Raising}
 use Rattle.model.specs.Beneath.{is_loose}
@@ -7,6 +6,3 @@ use Rattle.nests.proofs.flag_loose.Given as goal
 
 abbrev pub invariant-loop-n : goal.invariant-loop-n
 invariant-loop-n l = Raising itself (is_loose (view l.region)) l.count l.n l.flags
-
-abbrev pub decreases-loop-n : goal.decreases-loop-n
-decreases-loop-n l = l.count - l.n

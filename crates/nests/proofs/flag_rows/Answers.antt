@@ -1,4 +1,3 @@
-use Prim.Native.Nat.{◌-◌}
 use Rattle.nests.proofs.Laws.{rows_start, rows_more, rows_end}
 use Rattle.nests.proofs.flag_rows.Goals as goal
 

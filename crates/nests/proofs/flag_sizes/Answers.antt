@@ -1,4 +1,3 @@
-use Prim.Native.Nat.{◌-◌}
 use Rattle.nests.proofs.Laws.{sizes_start, sizes_more, sizes_end}
 use Rattle.nests.proofs.flag_sizes.Goals as goal
 

@@ -1,4 +1,3 @@
-use Prim.Native.Nat.{◌-◌}
 use Rattle.region.specs.Region.{view}
 use Rattle.nests.proofs.Raising.{Raising}
 use Rattle.nests.specs.Under.{is_up}
@@ -7,6 +6,3 @@ use Rattle.nests.proofs.flag_sizes.Given as goal
 
 abbrev pub invariant-loop-m : goal.invariant-loop-m
 invariant-loop-m l = Raising (size_at (view l.region)) (is_up l.upper) l.count l.m l.sizes
-
-abbrev pub decreases-loop-m : goal.decreases-loop-m
-decreases-loop-m l = l.count - l.m

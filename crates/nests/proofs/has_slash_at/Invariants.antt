@@ -1,4 +1,3 @@
-use Prim.Native.Nat.{◌-◌}
 use lib.ListN.{length}
 use Rattle.word.proofs.Tests.{Unmet}
 use Rattle.nests.specs.Under.{slashed}
@@ -6,6 +5,3 @@ use Rattle.nests.proofs.has_slash_at.Given as goal
 
 abbrev pub invariant-loop-i : goal.invariant-loop-i
 invariant-loop-i l = Unmet (slashed l.name l.sizes) (length l.name) l.i
-
-abbrev pub decreases-loop-i : goal.decreases-loop-i
-decreases-loop-i l = length l.name - l.i

@@ -1,4 +1,3 @@
-use Prim.Native.Nat.{◌-◌}
 use Rattle.word.proofs.Tests.{Unmet}
 use Rattle.region.specs.Region.{view}
 use Rattle.nests.specs.Under.{under_one}
@@ -6,6 +5,3 @@ use Rattle.nests.proofs.is_under.Given as goal
 
 abbrev pub invariant-loop-m : goal.invariant-loop-m
 invariant-loop-m l = Unmet (under_one (view l.region) l.upper l.n) l.count l.m
-
-abbrev pub decreases-loop-m : goal.decreases-loop-m
-decreases-loop-m l = l.count - l.m

@@ -1,16 +1,9 @@
-use Rattle.ordering.proofs.Sorts.{good_laid, order_rises, order_same, order_more, name_below_lem}
+use Rattle.ordering.proofs.Sorts.{good_laid, order_rises, order_more}
 use Rattle.ordering.proofs.sort_in.Goals as goal
 
 pub packed_at-requires-clause-laid : goal.packed_at-requires-clause-laid
 packed_at-requires-clause-laid c =
     search good_laid
-
-pub packed_at-requires-clause-n_bound : goal.packed_at-requires-clause-n_bound
-packed_at-requires-clause-n_bound c =
-    search name_below_lem
-
-pub returns-in_default : goal.returns-in_default
-returns-in_default c = search order_same
 
 pub place-at-requires-clause-laid : goal.place-at-requires-clause-laid
 place-at-requires-clause-laid c =

@@ -1,5 +1,4 @@
 use mathlib.Core.Path.{refl}
-use Prim.Native.Nat.{◌-◌}
 use borrow.Author.Rules.{rules}
 use Rattle.preparing.proofs.Holding.{held_start, held_row, held_name, turn_held, names_held_lem}
 use Rattle.preparing.proofs.hold_names.Goals as goal

@@ -1,5 +1,4 @@
 use mathlib.Core.Path.{◌≡◌}
-use Prim.Native.Nat.{◌-◌}
 use lib.ListN.{length}
 use Rattle.region.specs.Region.{view, Laid}
 use Rattle.preparing.proofs.Holding.{Held}
@@ -8,6 +7,3 @@ use Rattle.preparing.proofs.hold_names.Given as goal
 -- `hold_names` meets its contract: the rows before place i hold what they keep. Assumes nothing.
 abbrev pub invariant-loop-i : goal.invariant-loop-i
 invariant-loop-i l = Laid l.region × (length l.region ≡ length l.initial.region) × Held (view l.initial.region) l.i (view l.region)
-
-abbrev pub decreases-loop-i : goal.decreases-loop-i
-decreases-loop-i l = l.rows - l.i

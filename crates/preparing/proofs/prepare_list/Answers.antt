@@ -5,8 +5,8 @@ pub prepare_rows-requires-clause-list_value_2 : goal.prepare_rows-requires-claus
 prepare_rows-requires-clause-list_value_2 c =
     search all_in
 
-pub returns-in_default : goal.returns-in_default
-returns-in_default c = search list_done
+pub returns-in-Some : goal.returns-in-Some
+returns-in-Some c = search list_out
 
 pub returns : goal.returns
-returns c = search list_out
+returns c = search list_done

@@ -5,8 +5,8 @@ pub hold_rows-requires-clause-named : goal.hold_rows-requires-clause-named
 hold_rows-requires-clause-named c =
     search taken_named
 
-pub returns-in_default : goal.returns-in_default
-returns-in_default c = search taken_done
+pub returns-in-Err : goal.returns-in-Err
+returns-in-Err c = search refused_back
 
 pub returns : goal.returns
-returns c = search refused_back
+returns c = search taken_done

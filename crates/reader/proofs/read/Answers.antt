@@ -1,4 +1,4 @@
-use Rattle.reader.proofs.Told.{read_stranger, read_empty, read_unknown, read_newer, read_malformed, read_is}
+use Rattle.reader.proofs.Told.{read_stranger, read_empty, read_unknown, read_newer, read_is}
 use Rattle.reader.proofs.read.Goals as goal
 
 pub returns-then-not-is_version : goal.returns-then-not-is_version
@@ -13,8 +13,5 @@ returns-then-not-is_version-2 c = search read_unknown
 pub returns-then-version-known : goal.returns-then-version-known
 returns-then-version-known c = search read_newer
 
-pub returns-in_default : goal.returns-in_default
-returns-in_default c = search read_malformed
-
 pub returns : goal.returns
-returns c = search read_is
+returns c = rw c.ok_or.ensures.value (search read_is)

@@ -1,14 +1,11 @@
-use Rattle.records.proofs.Laws.{committer_unknown, committer_malformed, committer_none, committer_found_lem}
+use Rattle.std.proofs.lemmas.Result.{err_from_is_err_and}
+use Rattle.records.proofs.Laws.{committer_refused, committer_found_lem}
 use Rattle.records.proofs.read_committer.Goals as goal
 
-pub returns-in-Unknown : goal.returns-in-Unknown
-returns-in-Unknown c = search committer_unknown
+pub returns-in_err-s : goal.returns-in_err-s
+returns-in_err-s c =
+    let p = err_from_is_err_and c.from_residual.result c.from_residual.ensures.1 in
+    rw (p.1, p.2) (committer_refused _ _ _ _ c.read_committer.ensures _ c.in_err-s.was)
 
-pub returns-in-Malformed : goal.returns-in-Malformed
-returns-in-Malformed c = search committer_malformed
-
-pub returns-in-NoPlace : goal.returns-in-NoPlace
-returns-in-NoPlace c = search committer_none
-
-pub returns-in-Found : goal.returns-in-Found
-returns-in-Found c = search committer_found_lem
+pub returns : goal.returns
+returns c = committer_found_lem _ _ _ _ c.read_committer.ensures _ _ c.in_ok-s.was c.done.ensures

@@ -1,8 +1,8 @@
-use Rattle.region.proofs.ReadLaws.{row_missing, row_found_lem}
+use Rattle.region.proofs.ReadLaws.{row_long, row_read}
 use Rattle.region.proofs.row_at.Goals as goal
 
-pub returns-in_default : goal.returns-in_default
-returns-in_default c = search row_missing
+pub get_row-requires : goal.get_row-requires
+get_row-requires c = search row_long
 
 pub returns : goal.returns
-returns c = search row_found_lem
+returns c = search row_read

@@ -1,10 +1,6 @@
-use Prim.Native.Nat.{◌-◌}
 use Rattle.region.specs.Region.{view}
 use Rattle.rows.proofs.Gather.{Gathering, of_line, every}
 use Rattle.rows.proofs.flag_lines.Given as goal
 
 abbrev pub invariant-loop-i : goal.invariant-loop-i
 invariant-loop-i l = Gathering of_line every (view l.region).lines l.i l.flags
-
-abbrev pub decreases-loop-i : goal.decreases-loop-i
-decreases-loop-i l = l.lines - l.i

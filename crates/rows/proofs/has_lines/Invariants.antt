@@ -1,5 +1,4 @@
 use mathlib.Core.Path.{◌≡◌}
-use Prim.Native.Nat.{◌-◌}
 use lib.ListN.{drop}
 use Rattle.region.specs.Region.{view}
 use Rattle.model.specs.Basic.{any}
@@ -9,6 +8,3 @@ use Rattle.rows.proofs.has_lines.Given as goal
 
 abbrev pub invariant-loop-i : goal.invariant-loop-i
 invariant-loop-i l = any (is_of l.name) (drop l.i (view l.region).lines) ≡ has_lines (view l.region) l.name
-
-abbrev pub decreases-loop-i : goal.decreases-loop-i
-decreases-loop-i l = l.lines - l.i

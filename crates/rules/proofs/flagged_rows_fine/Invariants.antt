@@ -1,6 +1,5 @@
 use mathlib.Core.Bool.{true}
 use mathlib.Core.Path.{◌≡◌}
-use Prim.Native.Nat.{◌-◌, ◌≤◌}
 use Rattle.model.specs.Basic.{below}
 use Rattle.region.specs.Region.{view}
 use Rattle.rules.specs.Tests.{row_test}
@@ -10,7 +9,4 @@ use Rattle.rules.specs.Marks.{seen}
 use Rattle.rules.proofs.flagged_rows_fine.Given as goal
 
 abbrev pub invariant-loop-i : goal.invariant-loop-i
-invariant-loop-i l = (l.i ≤ l.rows) × (below l.i (row_test (view l.region)) ≡ true) × Flags (seen (rows_in (view l.region).prepared) l.i) l.flags
-
-abbrev pub decreases-loop-i : goal.decreases-loop-i
-decreases-loop-i l = l.rows - l.i
+invariant-loop-i l = (below l.i (row_test (view l.region)) ≡ true) × Flags (seen (rows_in (view l.region).prepared) l.i) l.flags

@@ -5,6 +5,3 @@ use Rattle.rules.proofs.mark_names.Given as goal
 
 abbrev pub invariant-loop-n : goal.invariant-loop-n
 invariant-loop-n l = Marking (view l.region) l.n l.marks
-
-abbrev pub decreases-loop-n : goal.decreases-loop-n
-decreases-loop-n l = l.count - l.n

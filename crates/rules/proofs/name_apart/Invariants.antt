@@ -1,13 +1,9 @@
 use mathlib.Core.Bool.{true}
 use mathlib.Core.Path.{◌≡◌}
-use Prim.Native.Nat.{◌-◌, ◌≤◌}
 use Rattle.model.specs.Basic.{below}
 use Rattle.region.specs.Region.{view}
 use Rattle.model.specs.Fine.{apart_names}
 use Rattle.rules.proofs.name_apart.Given as goal
 
 abbrev pub invariant-loop-m : goal.invariant-loop-m
-invariant-loop-m l = (l.m ≤ l.n) × (below l.m (apart_names (view l.region) l.n) ≡ true)
-
-abbrev pub decreases-loop-m : goal.decreases-loop-m
-decreases-loop-m l = l.n - l.m
+invariant-loop-m l = below l.m (apart_names (view l.region) l.n) ≡ true

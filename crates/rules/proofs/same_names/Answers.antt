@@ -1,8 +1,5 @@
-use Rattle.rules.proofs.Marks.{names_other, names_same}
+use Rattle.rules.proofs.Marks.{names_other}
 use Rattle.rules.proofs.same_names.Goals as goal
 
-pub returns-then-marks-n : goal.returns-then-marks-n
-returns-then-marks-n c = search names_other
-
-pub returns : goal.returns
-returns c = search names_same
+pub returns-else-marks-n : goal.returns-else-marks-n
+returns-else-marks-n c = search names_other

@@ -1,10 +1,6 @@
-use Prim.Native.Nat.{◌-◌}
 use Rattle.edits.specs.Edits.{edits_in}
 use Rattle.splits.proofs.Edits.{Added}
 use Rattle.splits.proofs.add_edits.Given as goal
 
 abbrev pub invariant-loop-i : goal.invariant-loop-i
 invariant-loop-i l = Added (edits_in l.list) l.initial.region l.i l.region
-
-abbrev pub decreases-loop-i : goal.decreases-loop-i
-decreases-loop-i l = l.count - l.i

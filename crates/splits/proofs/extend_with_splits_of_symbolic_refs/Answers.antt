@@ -6,14 +6,14 @@ pub split_first-requires-clause-region_len : goal.split_first-requires-clause-re
 split_first-requires-clause-region_len c =
     search rows_many
 
-pub loop-left-init : goal.loop-left-init
-loop-left-init c = search ahead_start
+pub loop-init : goal.loop-init
+loop-init c = search ahead_start
 
 pub returns-then-end-first-gt-LIMIT : goal.returns-then-end-first-gt-LIMIT
 returns-then-end-first-gt-LIMIT c = absurd (omega arith)
 
-pub loop-left-preserved : goal.loop-left-preserved
-loop-left-preserved c = search ahead_more
+pub loop-preserved : goal.loop-preserved
+loop-preserved c = search ahead_more
 
 pub returns-then-leads_on : goal.returns-then-leads_on
 returns-then-leads_on c = search taken_cycle

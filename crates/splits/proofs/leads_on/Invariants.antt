@@ -1,5 +1,4 @@
 use mathlib.Core.Path.{◌≡◌}
-use Prim.Native.Nat.{◌-◌}
 use Rattle.model.specs.Store.{rows_in}
 use Rattle.region.specs.Region.{view}
 use Rattle.splits.specs.Round.{leads_on}
@@ -7,6 +6,3 @@ use Rattle.splits.proofs.leads_on.Given as goal
 
 abbrev pub invariant-loop-i : goal.invariant-loop-i
 invariant-loop-i l = leads_on (view l.region) l.i (rows_in (view l.region).prepared) ≡ leads_on (view l.region) l.first (rows_in (view l.region).prepared)
-
-abbrev pub decreases-loop-i : goal.decreases-loop-i
-decreases-loop-i l = l.end - l.i

@@ -5,12 +5,11 @@ use Rattle.splits.proofs.least_repeated.Goals as goal
 pub loop-i-init : goal.loop-i-init
 loop-i-init c = (search least_start, search rules, search behind_none)
 
-pub repeats-again-requires-clause-flags : goal.repeats-again-requires-clause-flags
-repeats-again-requires-clause-flags c =
-    search flags_at
+pub repeats-requires-clause-flags : goal.repeats-requires-clause-flags
+repeats-requires-clause-flags c = search flags_at
 
-pub loop-i-preserved-then-again : goal.loop-i-preserved-then-again
-loop-i-preserved-then-again c = (search least_more, search rules, search flags_of)
+pub loop-i-preserved-then-repeats : goal.loop-i-preserved-then-repeats
+loop-i-preserved-then-repeats c = (search least_more, search rules, search flags_of)
 
 pub loop-i-preserved : goal.loop-i-preserved
 loop-i-preserved c = (search least_same, search rules, search flags_of)

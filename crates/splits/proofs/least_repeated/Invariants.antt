@@ -12,6 +12,3 @@ invariant-loop-i l =
     (l.least ≡ least_from (view l.region) (rows_in (view l.region).prepared) l.i)
     × (l.i ≤ length (rows_in (view l.region).prepared))
     × Flags (behind (rows_in (view l.region).prepared) l.i) l.flags
-
-abbrev pub decreases-loop-i : goal.decreases-loop-i
-decreases-loop-i l = l.i

@@ -1,4 +1,3 @@
-use Prim.Native.Nat.{◌-◌}
 use Rattle.edits.specs.Edits.{edits_in}
 use Rattle.splits.proofs.Model.{asked}
 use Rattle.splits.proofs.Table.{Far}
@@ -6,6 +5,3 @@ use Rattle.splits.proofs.split_first.Given as goal
 
 abbrev pub invariant-loop-i : goal.invariant-loop-i
 invariant-loop-i l = Far (asked (edits_in l.list)) l.end 0 l.initial.region l.i l.region
-
-abbrev pub decreases-loop-i : goal.decreases-loop-i
-decreases-loop-i l = l.end - l.i

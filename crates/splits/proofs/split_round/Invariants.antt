@@ -6,6 +6,3 @@ use Rattle.splits.proofs.split_round.Given as goal
 
 abbrev pub invariant-loop-i : goal.invariant-loop-i
 invariant-loop-i l = Far (replicate (l.end - l.first) true) (l.end - l.first) l.first l.initial.region l.i l.region
-
-abbrev pub decreases-loop-i : goal.decreases-loop-i
-decreases-loop-i l = l.end - l.i

@@ -1,8 +1,5 @@
-use Rattle.splits.proofs.Twice.{again_none, again_here, again_later}
+use Rattle.splits.proofs.Twice.{again_none, again_later}
 use Rattle.splits.proofs.stands_again.Goals as goal
-
-pub returns-then-same : goal.returns-then-same
-returns-then-same c = search again_here
 
 pub loop-j-preserved : goal.loop-j-preserved
 loop-j-preserved c = search again_later

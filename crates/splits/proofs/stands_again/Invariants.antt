@@ -1,6 +1,5 @@
 use mathlib.Core.List.{map}
 use mathlib.Core.Path.{◌≡◌}
-use Prim.Native.Nat.{◌-◌}
 use lib.ListN.{drop}
 use Rattle.target.specs.Target.{same_name}
 use Rattle.model.specs.Rows.{name_in}
@@ -11,6 +10,3 @@ use Rattle.splits.proofs.stands_again.Given as goal
 
 abbrev pub invariant-loop-j : goal.invariant-loop-j
 invariant-loop-j l = any (same_name l.name) (map name_in (drop l.j (rows_in (view l.region).prepared))) ≡ any (same_name l.name) (map name_in (drop l.i (rows_in (view l.region).prepared)))
-
-abbrev pub decreases-loop-j : goal.decreases-loop-j
-decreases-loop-j l = l.rows - l.j

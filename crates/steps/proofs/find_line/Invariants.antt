@@ -1,5 +1,4 @@
 use mathlib.Core.Path.{◌≡◌}
-use Prim.Native.Nat.{◌-◌}
 use lib.ListN.{drop}
 use Rattle.region.specs.Region.{view}
 use Rattle.model.specs.Basic.{select}
@@ -9,6 +8,3 @@ use Rattle.steps.proofs.find_line.Given as goal
 
 abbrev pub invariant-loop-i : goal.invariant-loop-i
 invariant-loop-i l = line_among l.left (select (is_of l.name) (drop l.i (view l.region).lines)) ≡ line_among l.place (lines_of (view l.region) l.name)
-
-abbrev pub decreases-loop-i : goal.decreases-loop-i
-decreases-loop-i l = l.lines - l.i

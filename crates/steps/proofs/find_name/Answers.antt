@@ -1,4 +1,3 @@
-use Prim.Native.Nat.{◌-◌}
 use Rattle.steps.proofs.Laws.{at_below, number_here, number_more, number_end}
 use Rattle.steps.proofs.find_name.Goals as goal
 

@@ -1,11 +1,11 @@
-use Rattle.names.proofs.Components.{all_stop, all_more, all_end}
+use Rattle.std.proofs.Common.{rules, tests, ◌∙◌}
+use Rattle.std.proofs.lemmas.Iterator.{YieldsList-from_slice}
+use Rattle.std.proofs.lemmas.Iterator.Search.{all_from_yields_List}
+use Rattle.model.specs.PackedText.{is_digit}
+use Rattle.names.proofs.Words.{all_is}
 use Rattle.texts.proofs.are_digits.Goals as goal
 
-pub loop-i-preserved : goal.loop-i-preserved
-loop-i-preserved c = search all_more
-
-pub returns-else-ok : goal.returns-else-ok
-returns-else-ok c = search all_stop
-
 pub returns : goal.returns
-returns c = search all_end
+returns c =
+    all_from_yields_List is_digit _ _ _ c.all.ensures.ran (YieldsList-from_slice c.args.bytes.now cc) (λ x b q k. search (rules, tests))
+    ∙ all_is is_digit c.args.bytes.now

@@ -10,8 +10,8 @@ returns-in_default-existing c = search delete_match_absent
 pub returns-in-MustNotExist : goal.returns-in-MustNotExist
 returns-in-MustNotExist c = search delete_not
 
-pub returns-in-Present-existing : goal.returns-in-Present-existing
-returns-in-Present-existing c = search delete_match
+pub returns-in-Some-existing : goal.returns-in-Some-existing
+returns-in-Some-existing c = search delete_match
 
 pub returns-in-ExistingMustMatch : goal.returns-in-ExistingMustMatch
 returns-in-ExistingMustMatch c = search delete_may

@@ -7,11 +7,11 @@ returns-in_default c = search update_absent
 pub returns-in_default-existing-2 : goal.returns-in_default-existing-2
 returns-in_default-existing-2 c = search update_match_absent
 
-pub returns-in-Present-existing : goal.returns-in-Present-existing
-returns-in-Present-existing c = search update_not
+pub returns-in-Some-existing : goal.returns-in-Some-existing
+returns-in-Some-existing c = search update_not
 
-pub returns-in-Present-existing-2 : goal.returns-in-Present-existing-2
-returns-in-Present-existing-2 c = search update_match
+pub returns-in-Some-existing-2 : goal.returns-in-Some-existing-2
+returns-in-Some-existing-2 c = search update_match
 
 pub returns-in-ExistingMustMatch : goal.returns-in-ExistingMustMatch
 returns-in-ExistingMustMatch c = search update_may

@@ -17,7 +17,7 @@ hand_up-requires-clause-upward c =
     let e = c.put_existing-kept.ensures in
     turn_upward _ c.args.i c.requires.i_in_bounds c.args.opened _ e.0 _ e.1 c.requires.upward
 
-pub returns : goal.returns
-returns c =
+pub returns-in-Some : goal.returns-in-Some
+returns-in-Some c =
     let e = c.put_existing-kept.ensures in
-    turn_handed _ c.args.i c.requires.i_in_bounds c.args.opened _ e.0 _ e.1 c.in-Id.oid _ (sym c.previous_oid.ensures ∙ c.in-Id.is) c.hand_up.ensures
+    turn_handed _ c.args.i c.requires.i_in_bounds c.args.opened _ e.0 _ e.1 c.in-Some.oid _ (sym c.previous_oid.ensures ∙ c.in-Some.is) c.hand_up.ensures

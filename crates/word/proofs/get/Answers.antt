@@ -28,24 +28,21 @@ end : (s : List ℕ) (acc i : ℕ) → length s ≤ i → val_on acc (drop i s) 
 unfolding val_on
 end s acc i h e = sym (ap (val_on acc) (drop_of_length-le s h)) ∙ e
 
-pub loop-i-init : goal.loop-i-init
+pub loop-byte-init : goal.loop-byte-init
 unfolding val
-loop-i-init c = (omega arith, lit< tt, refl)
+loop-byte-init c = (omega arith, lit< tt, refl)
 
 pub overflow_mul-acc : goal.overflow_mul-acc
 overflow_mul-acc c =
-    let l = c.loop-i in
-    let p : l.acc * 256 + 0 < 2 ^ 64 = room _ 0 l.i _ l.invariant.1 c.loop-i-test.true c.requires (lit< tt) in
-    omega arith
-
-pub overflow_cast-acc : goal.overflow_cast-acc
-overflow_cast-acc c = omega (arith, c.shared_slice_known-1.given c.loop-i.i)
+    let l = c.loop-byte in
+    let p : l.acc * 256 + 0 < 2 ^ 64 = room _ 0 l.byte-index _ l.invariant.1 c.loop-byte-test.true c.requires (lit< tt) in
+    record { fits = omega arith }
 
 pub overflow_add-acc : goal.overflow_add-acc
-overflow_add-acc c = record { fits = search (room, c.shared_slice_known-1.given c.loop-i.i) }
+overflow_add-acc c = record { fits = rw c.from.ensures (search (room, c.type_inv.s c.loop-byte.byte-index)) }
 
-pub loop-i-preserved : goal.loop-i-preserved
-loop-i-preserved c = (omega arith, search (wider, c.shared_slice_known-1.given c.loop-i.i), search turn)
+pub loop-byte-preserved : goal.loop-byte-preserved
+loop-byte-preserved c = rw c.from.ensures (omega arith, search (wider, c.type_inv.s c.loop-byte.byte-index), search turn)
 
 pub returns : goal.returns
 returns c = search end

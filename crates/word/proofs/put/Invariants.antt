@@ -8,6 +8,3 @@ use Rattle.word.proofs.put.Given as goal
 -- Assumes nothing.
 abbrev pub invariant-loop-i : goal.invariant-loop-i
 invariant-loop-i l = (l.i ≤ length l.s) × (length l.s ≡ length l.initial.s) × (be_on l.i l.left (drop l.i l.s) ≡ be (length l.initial.s) l.x)
-
-abbrev pub decreases-loop-i : goal.decreases-loop-i
-decreases-loop-i l = l.i

@@ -1,6 +1,5 @@
 use mathlib.Core.Path.{◌≡◌}
 use mathlib.Core.Bool.{not}
-use Prim.Native.Nat.{◌-◌}
 use lib.ListN.{drop}
 use Rattle.transaction.specs.declared.Edit.{Edit}
 use Rattle.region.specs.Region.{view}
@@ -13,6 +12,3 @@ abbrev pub invariant-loop-i : goal.invariant-loop-i
 invariant-loop-i l =
     any (λ (r : Edit). not (is_empty (packed_edit (view l.region) l.mode r))) (drop l.i (rows_in (view l.region).prepared))
     ≡ not (is_empty (packed_edits (view l.region) (mode_in (view l.region).prepared) (rows_in (view l.region).prepared)))
-
-abbrev pub decreases-loop-i : goal.decreases-loop-i
-decreases-loop-i l = l.rows - l.i

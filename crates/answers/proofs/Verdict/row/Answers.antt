@@ -1,5 +1,7 @@
-use Rattle.answers.proofs.Laws.{row_answer}
+use mathlib.Core.Path.{◌∙◌, ap}
+use Rattle.model.specs.Numbers.{answer}
+use Rattle.answers.proofs.Laws.{row_used}
 use Rattle.answers.proofs.Verdict.row.Goals as goal
 
 pub returns : goal.returns
-returns c = search row_answer
+returns c = c.done.ensures ∙ ap (answer 0) (row_used c.args.row c.args.found _ _ _ c.copy_from_slice.ensures.after c.row_numbers.ensures c.place.ensures)

@@ -1,16 +1,16 @@
-use mathlib.Core.Path.{refl}
-use native.Mathlib.Omega.{arith}
-use Rattle.names.proofs.Bytes.{within_here, within_end, within_more}
+use Rattle.std.proofs.Common.{rules, tests, ◌∙◌, ◌-◌, length, take, drop, refl, arith}
+use Rattle.std.proofs.lemmas.Iterator.{YieldsList-from_range}
+use Rattle.std.proofs.lemmas.Iterator.Search.{any_from_yields_List}
+use Rattle.model.specs.Names.{begins}
+use Rattle.names.proofs.Words.{within_empty, within_places}
 use Rattle.names.proofs.spelling.contains.Goals as goal
 
-pub loop-i-init : goal.loop-i-init
-loop-i-init c = (omega arith, refl)
+pub returns-then-is_empty : goal.returns-then-is_empty
+returns-then-is_empty c = search within_empty
 
-pub returns-then-begins_with : goal.returns-then-begins_with
-returns-then-begins_with c = search within_here
-
-pub returns-then-i-name : goal.returns-then-i-name
-returns-then-i-name c = search within_end
-
-pub loop-i-preserved : goal.loop-i-preserved
-loop-i-preserved c = (omega arith, search within_more)
+pub returns-else-is_empty : goal.returns-else-is_empty
+returns-else-is_empty c =
+    let n = c.args.name.now in
+    any_from_yields_List (λ i. begins c.args.part.now (take (length n - i) (drop i n))) _ _ c.any.result c.any.ensures.ran
+    (YieldsList-from_range 0 (length n) (length n) refl (omega arith)) (λ x b q k. search (rules, tests))
+    ∙ within_places c.args.part.now n _ c.is_empty.ensures c.if-is_empty.false

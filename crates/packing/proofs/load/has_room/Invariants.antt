@@ -9,6 +9,3 @@ use Rattle.packing.proofs.load.has_room.Given as goal
 abbrev pub invariant-loop-left : goal.invariant-loop-left
 invariant-loop-left l =
     Counted (view l.region).entries (fits (view l.region).entries (count (view l.region)) (first_refs l.lines l.text)) (length l.text) l.rest l.left l.held
-
-abbrev pub decreases-loop-left : goal.decreases-loop-left
-decreases-loop-left l = l.left

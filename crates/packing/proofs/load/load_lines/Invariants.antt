@@ -6,6 +6,3 @@ use Rattle.packing.proofs.load.load_lines.Given as goal
 
 abbrev pub invariant-loop-left : goal.invariant-loop-left
 invariant-loop-left l = Loading (first_refs l.lines l.text) (view l.initial.region) (length l.text) l.rest l.left l.region
-
-abbrev pub decreases-loop-left : goal.decreases-loop-left
-decreases-loop-left l = l.left

@@ -1,6 +1,0 @@
-use Rattle.rows.proofs.Named.{rows_named}
-use Rattle.broken.proofs.nests_fine.Goals as goal
-
-pub nests_fine-requires-clause-named : goal.nests_fine-requires-clause-named
-nests_fine-requires-clause-named c =
-    search rows_named

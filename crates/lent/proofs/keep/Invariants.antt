@@ -1,8 +1,0 @@
-use Rattle.lent.proofs.keep.Given as goal
-
--- The measure is how many places are left.
-abbrev pub invariant-loop-left : goal.invariant-loop-left
-invariant-loop-left l = Unit {0}
-
-abbrev pub decreases-loop-left : goal.decreases-loop-left
-decreases-loop-left l = l.left
