@@ -8,6 +8,7 @@ mod full;
 mod readings;
 
 use region::Layout;
+use silent::Silent;
 use std::io;
 
 // An edit list of no edits: it is prepared, with no rows.
@@ -72,6 +73,7 @@ fn others(rt: &impl Print, region: &mut [u8]) -> io::Result<()> {
 }
 
 fn main(rt: HostRuntime) -> io::Result<()> {
+    let rt = Silent { rt };
     let mut store = vec![in rt.alloc(); 0; Layout::SIZE]?;
     let region = &mut store[..];
     asks::start(&rt, region)?;

@@ -7,6 +7,7 @@ mod bus;
 
 use bus::{Bus, LIST};
 use receiver::Receiver;
+use silent::Silent;
 use std::io;
 
 // A list in three pieces, in two, and in single bytes.
@@ -95,6 +96,7 @@ fn others(rt: &impl Print, bus: &mut Bus) -> io::Result<()> {
 }
 
 fn main(rt: HostRuntime) -> io::Result<()> {
+    let rt = Silent { rt };
     let mut bus = Bus::new(rt.alloc())?;
     asks::start(&rt, &mut bus.region)?;
     bus.take(&rt, "any bytes", b"")?;

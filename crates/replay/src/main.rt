@@ -9,6 +9,7 @@ mod replay;
 use lines::input;
 use lines::input::Ending;
 use replay::Replay;
+use silent::Silent;
 use std::io;
 use std::io::BufReader;
 
@@ -17,7 +18,7 @@ fn main(rt: HostRuntime) -> io::Result<()> {
     let alloc = rt.alloc();
     let mut input = BufReader::new(alloc, rt.reader())?;
     let mut line = Vec::new(alloc);
-    let mut replay = Replay::new(alloc, &rt)?;
+    let mut replay = Replay::new(alloc, Silent { rt: &rt })?;
     for _ in 0..u64::MAX {
         match input::next_line(&mut input, &mut line)? {
             Some(Ending::Newline) => replay.follow(&line)?,

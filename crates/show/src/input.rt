@@ -40,12 +40,12 @@ fn count_rest(input: &mut impl Read) -> u64 {
 }
 
 // There is room for a region and one byte more, which tells that an input is too long.
-fn read(rt: &(impl Print + AllocGlobal), input: &mut impl Read) -> io::Result<()> {
-    let mut room = vec![in rt.alloc(); 0; Layout::SIZE + 1]?;
+fn read(out: &(impl Print + AllocGlobal), input: &mut impl Read) -> io::Result<()> {
+    let mut room = vec![in out.alloc(); 0; Layout::SIZE + 1]?;
     let buffer = &mut room[..];
     let filled = fill(input, buffer);
     let size = (filled as u64).saturating_add(count_rest(input));
-    judge::region(rt, &buffer[..filled], size)
+    judge::region(out, &buffer[..filled], size)
 }
 
 // A path that is no text of UTF-8 opens nothing.
@@ -54,13 +54,13 @@ fn open<R: Files>(rt: &R, path: &[u8]) -> Option<R::File> {
     fs::open(rt, path).ok()
 }
 
-fn file(rt: &(impl Runtime + AllocGlobal), path: &[u8]) -> io::Result<()> {
-    print!(rt; "== ")?;
-    io::writer(rt).write_all(path)?;
-    println!(rt)?;
+fn file(rt: &impl Runtime, out: &(impl Print + AllocGlobal), path: &[u8]) -> io::Result<()> {
+    print!(out; "== ")?;
+    io::writer(out).write_all(path)?;
+    println!(out)?;
     match open(rt, path) {
-        Some(mut opened) => read(rt, &mut opened),
-        None => println!(rt; "it cannot be opened"),
+        Some(mut opened) => read(out, &mut opened),
+        None => println!(out; "it cannot be opened"),
     }
 }
 
@@ -73,15 +73,15 @@ fn argument<'a>(rt: &impl Env, i: usize, path: &'a mut [u8]) -> Option<&'a [u8]>
     }
 }
 
-// The arguments behind the program's name.
-pub fn all(rt: &(impl Runtime + AllocGlobal)) -> io::Result<()> {
+// The arguments behind the program's name. What is said goes to `out`.
+pub fn all(rt: &impl Runtime, out: &(impl Print + AllocGlobal)) -> io::Result<()> {
     let mut buffer = [0; PATH_LIMIT];
     if argument(rt, 1, &mut buffer).is_none() {
-        return read(rt, &mut rt.reader());
+        return read(out, &mut rt.reader());
     }
     for i in 1..usize::MAX {
         match argument(rt, i, &mut buffer) {
-            Some(path) => file(rt, path)?,
+            Some(path) => file(rt, out, path)?,
             None => break,
         }
     }

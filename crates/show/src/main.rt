@@ -6,8 +6,9 @@ mod input;
 mod judge;
 mod store;
 
+use silent::Silent;
 use std::io;
 
 fn main(rt: HostRuntime) -> io::Result<()> {
-    input::all(&rt)
+    input::all(&rt, &Silent { rt: &rt })
 }

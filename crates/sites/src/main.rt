@@ -9,6 +9,7 @@ mod bounds;
 
 use asks::Settings;
 use settings::{Heading, Record};
+use silent::Silent;
 use std::io;
 
 // An older reader refuses it, and a newer one reads it.
@@ -127,6 +128,7 @@ fn longest_name(rt: &impl Print) -> io::Result<()> {
 }
 
 fn main(rt: HostRuntime) -> io::Result<()> {
+    let rt = Silent { rt };
     example(&rt)?;
     neighbours(&rt)?;
     longest_name(&rt)?;
