@@ -42,9 +42,17 @@ pub fn is_beneath(name: &[u8], above: &[u8]) -> bool
     end < name.len() && name[end] == b'/' && word::same(above, &name[..end])
 }
 
-// Byte order: the first stands before the second.
+// Byte order: the first stands before the second. A loop, since `<` takes longer over what the two share.
 pub fn is_before(a: &[u8], b: &[u8]) -> bool
     ensures { result ≡ before a.now b.now }
 {
-    a < b
+    for i in 0..b.len() {
+        if a.len() <= i {
+            return true;
+        }
+        if a[i] != b[i] {
+            return a[i] < b[i];
+        }
+    }
+    false
 }

@@ -1,18 +1,19 @@
--- Where a ref belongs among refs that rise: behind those that it does not stand before, which a halving finds. Assumes nothing.
+-- Where a ref belongs among refs that rise: behind those that it does not stand before. Turns and end of the loop that halves.
+-- Assumes nothing.
 use mathlib.Core.Path.{◌≡◌, refl, sym, ap, ap₂, ◌∙◌}
-use mathlib.Core.Bool.{Bool, true, false, not, true≢false}
+use mathlib.Core.Bool.{Bool, true, false, true≢false}
 use mathlib.Core.List.{List, [], ◌∷◌, ◌++◌}
-use Prim.Native.Nat.{ℕ, zero, suc, ◌+◌, ◌≤◌, ◌<◌}
+use Prim.Native.Nat.{ℕ, zero, suc, ◌+◌, ◌-◌, ◌/◌, ◌≤◌, ◌<◌}
 use native.Mathlib.Omega.{arith}
 use lib.ListN.{length, get_or, take, drop, length-map, get_or-map}
 use lib.Seq.{length-take-le, get_or-take}
 use lib.Dec.{eqb}
-use borrow.Author.Tests.{eqb-true, eqb-false, not-true, not-false}
-use Rattle.std.specs.List.Sorted.{IsPartitionedBy, IsPartitionPoint}
+use borrow.Author.Tests.{eqb-true, eqb-false}
 use Rattle.word.proofs.Tests.{both_true}
+use Rattle.target.specs.declared.NameNumber.{NameNumber}
 use Rattle.model.specs.Basic.{all}
 use Rattle.model.specs.Names.{before}
-use Rattle.model.specs.Store.{Store, entry_at}
+use Rattle.model.specs.Store.{Store, entry_at, entry_of}
 use Rattle.model.specs.PackedText.{Ref, insert}
 use Rattle.model.specs.Texts.{rises}
 use Rattle.model.proofs.ByteOrder.{before_trans}
@@ -63,12 +64,20 @@ module _ (s : Store) (numbers : List ℕ) (held : ℕ) (h : held ≤ length numb
 abbrev pub asks : Store → List ℕ → ℕ → ℕ → Bool
 asks s numbers n i = before (entry_at s n).name (entry_at s (get_or numbers i 0)).name
 
--- the place lies from `low` to `high`
+-- what is known between two turns: the place lies from `low` to `high`
 pub record Narrowed (s : Store) (numbers : List ℕ) (held n low high : ℕ) : Type 0 where
   pub near : low ≤ high
   pub inside : high ≤ held
   pub behind : (i : ℕ) → i < low → asks s numbers n i ≡ false
   pub ahead : (i : ℕ) → high ≤ i → i < held → asks s numbers n i ≡ true
+
+pub narrow_start : (s : Store) (numbers : List ℕ) (held n : ℕ) → Narrowed s numbers held n 0 held
+narrow_start s numbers held n = record {
+  near = omega arith;
+  inside = omega arith;
+  behind = λ i l. absurd (omega arith);
+  ahead = λ i l h. absurd (omega arith);
+}
 
 module _ (s : Store) (numbers : List ℕ) (held : ℕ) (h : held ≤ length numbers) (up : rises (first_at s held numbers) ≡ true) where
   -- of two numbers the earlier one's name stands before the later one's
@@ -97,21 +106,34 @@ module _ (s : Store) (numbers : List ℕ) (held : ℕ) (h : held ≤ length numb
         go true q = absurd (true≢false (sym (then_ahead i q m l k) ∙ e))
         go false q = q
 
--- ---- the place that is found
-
--- the name with these bytes does not stand before that of number m
-abbrev pub behind : Store → List ℕ → ℕ → Bool
-behind s b m = not (before b (entry_at s m).name)
-
--- a number within the list is read alike with any default
-read_alike : (xs : List ℕ) (i d : ℕ) → i < length xs → get_or xs i d ≡ get_or xs i 0
-read_alike [] i d h = absurd (omega arith)
-read_alike (x ∷ xs) zero d h = refl
-read_alike (x ∷ xs) (suc i) d h = read_alike xs i d (omega arith)
+-- ---- a turn: the place in the middle is asked, and what is known of it is known of one side
 
 module _ (s : Store) (numbers : List ℕ) (held : ℕ) (h : held ≤ length numbers) (up : rises (first_at s held numbers) ≡ true) where
+  module _ (low high : ℕ) (l : low < high) (name other : NameNumber) (a b : List ℕ) (r : Bool) (k : Narrowed s numbers held name.0 low high) where
+    module _ (eo : other ≡ record { 0 = get_or numbers (low + (high - low) / 2) 0 }) (ea : a ≡ (entry_of s name).name)
+        (eb : b ≡ (entry_of s other).name) (er : r ≡ before a b) where
+      answer : asks s numbers name.0 (low + (high - low) / 2) ≡ r
+      answer =
+          sym (er ∙ ap₂ before ea (eb ∙ ap (λ (m : NameNumber). (entry_of s m).name) eo))
+
+      pub narrow_down : r ≡ true → Narrowed s numbers held name.0 low (low + (high - low) / 2)
+      narrow_down t = record {
+        near = omega arith;
+        inside = omega arith;
+        behind = k.behind;
+        ahead = then_ahead s numbers held h up name.0 (low + (high - low) / 2) (answer ∙ t);
+      }
+
+      pub narrow_up : r ≡ false → Narrowed s numbers held name.0 (low + (high - low) / 2 + 1) high
+      narrow_up t = record {
+        near = omega arith;
+        inside = omega arith;
+        behind = λ i q. then_behind s numbers held h up name.0 (low + (high - low) / 2) (omega arith) (answer ∙ t) i (omega arith);
+        ahead = k.ahead;
+      }
+
   -- no place is left but one
-  narrow_end : (n low high : ℕ) → high ≤ low → Narrowed s numbers held n low high → Places s numbers held n low
+  pub narrow_end : (n low high : ℕ) → high ≤ low → Narrowed s numbers held n low high → Places s numbers held n low
   narrow_end n low high l k =
       let z : length (first_at s held numbers) ≡ held = first_length s numbers held h in
       let asked : (i : ℕ) → i < held → before (entry_at s n).name (get_or (first_at s held numbers) i (ref_at s 0)).name ≡ asks s numbers n i =
@@ -123,29 +145,3 @@ module _ (s : Store) (numbers : List ℕ) (held : ℕ) (h : held ≤ length numb
             (λ i q. asked i (omega arith) ∙ k.behind i q)
             (λ q. asked low (omega arith) ∙ k.ahead low l (omega arith));
       }
-
-  module _ (n : ℕ) (b : List ℕ) (eb : b ≡ (entry_at s n).name) where
-    long : length (take held numbers) ≡ held
-    long = length-take-le held numbers h
-
-    asked : (i d : ℕ) → i < held → behind s b (get_or (take held numbers) i d) ≡ not (asks s numbers n i)
-    asked i d l =
-        ap₂ (λ (a : List ℕ) (m : ℕ). not (before a (entry_at s m).name)) eb
-        (read_alike (take held numbers) i d (omega (arith, long)) ∙ get_or-take held numbers i 0 l)
-
-    pub parted : IsPartitionedBy (behind s b) (take held numbers)
-    parted i j d l k e =
-        let m : j < held = omega (arith, long) in
-        let a : asks s numbers n j ≡ false = not-true (asks s numbers n j) (sym (asked j d m) ∙ e) in
-        asked i d (omega arith) ∙ ap not (then_behind s numbers held h up n j m a i l)
-
-    pub placed : (r : ℕ) → r ≤ length (take held numbers) → IsPartitionPoint (λ m. behind s b m ≡ true) (λ m. behind s b m ≡ false) (take held numbers) r
-        → Places s numbers held n r
-    placed r l p =
-        let k : r ≤ held = omega (arith, long) in
-        narrow_end n r r (omega arith) (record {
-          near = omega arith;
-          inside = k;
-          behind = λ i q. not-true (asks s numbers n i) (sym (asked i 0 (omega arith)) ∙ p.0 i 0 (omega arith) q);
-          ahead = λ i q m. not-false (asks s numbers n i) (sym (asked i 0 m) ∙ p.1 i 0 q (omega (arith, long)));
-        })

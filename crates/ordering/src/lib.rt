@@ -19,20 +19,33 @@ fn place(region: &[u8], numbers: &[u8], held: usize, name: NameNumber) -> usize
     requires numbers_value { rises (first_at (view region.now) held numbers.now) ≡ true }
     ensures { Places (view region.now) numbers.now held name.0 result }
 {
-    let bytes = beneath::bytes_of(region, name);
-    numbers[..held].partition_point(|&number| {
-        let other = beneath::bytes_of(region, NameNumber::at(usize::from(number)));
-        !names::spelling::is_before(bytes, other)
-    })
+    let mut low: usize = 0;
+    let mut high = held;
+    while low < high {
+        let middle = low + (high - low) / 2;
+        let other = NameNumber::at(numbers[middle] as usize);
+        let first = names::spelling::is_before(
+            beneath::bytes_of(region, name),
+            beneath::bytes_of(region, other),
+        );
+        if first {
+            high = middle;
+        } else {
+            low = middle + 1;
+        }
+    }
+    low
 }
 
-// The numbers from `at` to `held` move up by one.
+// The numbers from `at` to `held` move up by one. A loop, since `copy_within` has the archive ask for a function from outside.
 fn open(numbers: &mut [u8], at: usize, held: usize)
     requires at_le_held { at ≤ held }
     requires held_in_bounds { held < length numbers.old }
     ensures { Opened numbers.old at held numbers.new }
 {
-    numbers.copy_within(at..held, at + 1);
+    for i in (at..held).rev() {
+        numbers[i + 1] = numbers[i];
+    }
 }
 
 // With name n too, if it has a packed value: how many there are then.

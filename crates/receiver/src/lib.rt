@@ -67,7 +67,7 @@ pub fn add(receiver: &mut [u8], fragment: &[u8])
     let count = count(receiver);
     let begin = Receiver::BYTES + count;
     let end = begin + fragment.len();
-    receiver[begin..end].copy_from_slice(fragment);
+    word::copy(&mut receiver[begin..end], fragment);
     let now = count + fragment.len();
     word::put_at(
         receiver,

@@ -116,7 +116,7 @@ fn put_committer(slot: &mut [u8], number: u64, name: &[u8])
 {
     word::put_at(slot, 0, 2, number);
     word::put_at(slot, Heading::LENGTH_AT, 1, name.len() as u64);
-    slot[Heading::NAME..].copy_from_slice(name);
+    word::copy(&mut slot[Heading::NAME..], name);
 }
 
 // The committers, one after the other.

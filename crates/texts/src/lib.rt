@@ -63,7 +63,7 @@ fn put_name(rest: &mut [u8], name: &[u8])
     let end = 1 + name.len();
     rest[0] = RefLine::SPACE;
     rest[end] = RefLine::LINE_FEED;
-    rest[1..end].copy_from_slice(name);
+    word::copy(&mut rest[1..end], name);
 }
 
 // A ref line, in a part that is as long.

@@ -71,11 +71,29 @@ pub fn all_zero(s: &[u8]) -> bool
     most == 0
 }
 
-// The two are as long, and byte by byte the same.
+// The two are as long, and byte by byte the same. Most names begin alike, so the bytes are compared from the back.
 pub fn same(a: &[u8], b: &[u8]) -> bool
     ensures { result ≡ same_list a.now b.now }
 {
-    a == b
+    if a.len() != b.len() {
+        return false;
+    }
+    for i in (0..a.len()).rev() {
+        if a[i] != b[i] {
+            return false;
+        }
+    }
+    true
+}
+
+// The bytes of src, put into a part that is as long. A loop, since `copy_from_slice` has the archive ask for a function from outside.
+pub fn copy(dst: &mut [u8], src: &[u8])
+    requires { length dst.old ≡ length src.now }
+    ensures { dst.new ≡ src.now }
+{
+    for i in 0..dst.len() {
+        dst[i] = src[i];
+    }
 }
 
 // ---- flags, by number

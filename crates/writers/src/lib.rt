@@ -81,13 +81,13 @@ pub fn add_name(region: &mut [u8], name: &[u8])
     let b = a + 1;
     let e = b + name.len();
     region[a] = name.len() as u8;
-    region[b..e].copy_from_slice(name);
+    word::copy(&mut region[b..e], name);
     word::put_at(region, Layout::NAME_COUNT, 2, (n + 1) as u64);
 }
 
 // ---- rows
 
-// Rows under a mode, None so far.
+// Rows under a mode, none so far.
 pub fn begin_rows(region: &mut [u8], mode: PackedRefs)
     requires laid { Laid region.old }
     requires region_value { (view region.old).prepared ≡ None }

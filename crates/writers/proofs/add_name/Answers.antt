@@ -15,4 +15,4 @@ pub put_at-requires : goal.put_at-requires
 put_at-requires c = search (count_room, c.region-1.given.1)
 
 pub returns : goal.returns
-returns c = search (add_name_is, c.copy_from_slice.ensures.after)
+returns c = search (add_name_is, c.copy.ensures)

@@ -1,6 +1,14 @@
-use Rattle.std.proofs.Common.{◌∙◌}
-use Rattle.names.proofs.Words.{before_is}
+use Rattle.names.proofs.Order.{before_short, before_not, before_more, before_end}
 use Rattle.names.proofs.spelling.is_before.Goals as goal
 
+pub returns-then-a-i : goal.returns-then-a-i
+returns-then-a-i c = search before_short
+
+pub returns-then-a-i-2 : goal.returns-then-a-i-2
+returns-then-a-i-2 c = search before_not
+
+pub loop-i-preserved : goal.loop-i-preserved
+loop-i-preserved c = search before_more
+
 pub returns : goal.returns
-returns c = c.lt.ensures ∙ before_is c.args.a.now c.args.b.now
+returns c = search before_end
