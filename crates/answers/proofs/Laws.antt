@@ -5,7 +5,7 @@ use mathlib.Core.List.{List, [], ◌∷◌, ◌++◌, append_assoc, append-nil}
 use Prim.Native.Nat.{ℕ, ◌+◌, ◌*◌, ◌<◌, ◌≤◌}
 use native.Mathlib.Numerals.{add-one}
 use native.Mathlib.Omega.{arith}
-use lib.ListN.{length, take, drop, set, get_or, length-append}
+use lib.ListN.{length, take, drop, get_or, length-append}
 use lib.Seq.{take_at, take-suc, take_all, length-take-le}
 use Rattle.word.specs.Be.{be}
 use Rattle.word.specs.Cut.{put}
@@ -28,12 +28,15 @@ parents (Some j) = refl
 
 -- thirteen of them, and behind them the place of the existing value
 used : List ℕ → ℕ → List ℕ
-used p k = set (p ++ (0 ∷ [])) 13 k
+used p k =
+    get_or p 0 0 ∷ get_or p 1 0 ∷ get_or p 2 0 ∷ get_or p 3 0 ∷ get_or p 4 0 ∷ get_or p 5 0 ∷ get_or p 6 0 ∷ get_or p 7 0 ∷ get_or p 8 0 ∷ get_or p 9 0
+    ∷ get_or p 10 0 ∷ get_or p 11 0 ∷ get_or p 12 0 ∷ k ∷ []
 
-pub row_used : (r : Edit) (x : Found) (q p : List ℕ) (k : ℕ) → q ≡ p → p ≡ row_numbers r → k ≡ place_number x
-    → set (q ++ (0 ∷ [])) 13 k ≡ row_places r ++ (place_number x ∷ [])
+pub row_used : (r : Edit) (x : Found) (p : List ℕ) (k : ℕ) → p ≡ row_numbers r → k ≡ place_number x
+    → get_or p 0 0 ∷ get_or p 1 0 ∷ get_or p 2 0 ∷ get_or p 3 0 ∷ get_or p 4 0 ∷ get_or p 5 0 ∷ get_or p 6 0 ∷ get_or p 7 0 ∷ get_or p 8 0 ∷ get_or p 9 0
+    ∷ get_or p 10 0 ∷ get_or p 11 0 ∷ get_or p 12 0 ∷ k ∷ [] ≡ row_places r ++ (place_number x ∷ [])
 unfolding used
-row_used r x q p k eq ep ek = ap₂ used (eq ∙ ep) ek ∙ simp (parents r.parent_index)
+row_used r x p k ep ek = ap₂ used ep ek ∙ simp (parents r.parent_index)
 
 -- ---- the loop over places: the first i stand in the first i * 8 bytes
 

@@ -1,5 +1,5 @@
 -- The answer record: 16 places of 8 bytes; and the answer that a verdict of the code is.
-use Rattle.std.specs.Prelude.{Result, Ok, Err, List, ℕ}
+use Rattle.std.specs.Prelude.{Result, Ok, Err, Bool, true, ◌||◌, List, ℕ, eqb}
 use Rattle.word.specs.Be.{be}
 use Rattle.model.specs.Basic.{collect}
 use Rattle.model.specs.declared.Refusal.{Refusal}
@@ -18,7 +18,11 @@ abbrev pub answered : Result Verdict Refusal → Answer
 answered (Ok v) = answer_by v
 answered (Err r) = refusal_answer r
 
--- the same as one verdict: a refusal's is that of its number and places
-abbrev pub verdict_of : Result Verdict Refusal → Verdict
-verdict_of (Ok v) = v
-verdict_of (Err r) = record { number = (refusal_answer r).number; places = (refusal_answer r).places }
+-- the numbers of what is no refusal: a call is done, or a commit was stopped part way
+abbrev pub is_ending : ℕ → Bool
+is_ending n = eqb n 0 || eqb n 16 || eqb n 17
+
+-- a refusal is handed on as one: no verdict has a refusal's number
+abbrev pub is_apart : Result Verdict Refusal → Bool
+is_apart (Ok v) = is_ending v.number
+is_apart (Err r) = true

@@ -112,10 +112,23 @@ impl Verdict {
     pub fn row(row: Edit, found: Found) -> Verdict
         ensures { answer_by result ≡ answer 0 (row_places row ++ (place_number found ∷ [])) }
     {
-        let mut used = [0u64; 14];
-        used[..13].copy_from_slice(&slots::row_numbers(row));
-        used[13] = found.place();
-        Verdict::done(&used)
+        let p = slots::row_numbers(row);
+        Verdict::done(&[
+            p[0],
+            p[1],
+            p[2],
+            p[3],
+            p[4],
+            p[5],
+            p[6],
+            p[7],
+            p[8],
+            p[9],
+            p[10],
+            p[11],
+            p[12],
+            found.place(),
+        ])
     }
 }
 

@@ -25,7 +25,8 @@ use Rattle.model.specs.Calls.{step, rows_prepared, text_written}
 use Rattle.model.specs.Prepare.{rows_for, held as holds}
 use Rattle.model.specs.Numbers.{Answer, answer_of, refusal_answer}
 use Rattle.answers.specs.declared.Verdict.{Verdict}
-use Rattle.answers.specs.Answers.{answer_by, answered, verdict_of}
+use Rattle.answers.specs.Answers.{answer_by}
+use Rattle.answers.proofs.Apart.{one_result}
 use Rattle.model.specs.Reached.{Reached, leaves}
 use Rattle.model.specs.Reached.Reached.{begun, after}
 use Rattle.model.proofs.Kept.{reached_sound}
@@ -49,22 +50,18 @@ determined o n n' a₁ a₂ lent₁ lent₂ d e = (d.code ∙ sym e.code, d.answ
 verdict : Answer → Verdict
 verdict x = record { number = x.number; places = x.places }
 
-verdict_is : (v : Result Verdict Refusal) → verdict_of v ≡ verdict (answered v)
+pub one_verdict : (v v' : Verdict) → answer_by v ≡ answer_by v' → v ≡ v'
 unfolding verdict
-verdict_is (Ok v) = refl
-verdict_is (Err x) = refl
-
-pub one_verdict : (v v' : Result Verdict Refusal) → answered v ≡ answered v' → verdict_of v ≡ verdict_of v'
-one_verdict v v' e = verdict_is v ∙ ap verdict e ∙ sym (verdict_is v')
+one_verdict v v' e = ap verdict e
 
 pub below_determined : BelowDetermined
-below_determined reply r v v' r₁ r₂ d e = (one_verdict v v' (d.answer ∙ sym e.answer), d.region ∙ sym e.region)
+below_determined reply r v v' r₁ r₂ d e = (one_result v v' d.apart e.apart (d.answer ∙ sym e.answer), d.region ∙ sym e.region)
 
 pub wrote_determined : WroteDetermined
-wrote_determined r b v v' b₁ b₂ d e = (one_verdict v v' (d.answer ∙ sym e.answer), d.buffer ∙ sym e.buffer)
+wrote_determined r b v v' b₁ b₂ d e = (one_result v v' d.apart e.apart (d.answer ∙ sym e.answer), d.buffer ∙ sym e.buffer)
 
 pub keeps_determined : KeepsDetermined
-keeps_determined k v v' b₁ b₂ d e = (one_verdict v v' (d.answer ∙ sym e.answer), d.buffer ∙ sym e.buffer)
+keeps_determined k v v' b₁ b₂ d e = (one_result v v' d.apart e.apart (d.answer ∙ sym e.answer), d.buffer ∙ sym e.buffer)
 
 pub part_determined : PartDetermined
 part_determined n r p q d e = d ∙ sym e

@@ -27,6 +27,7 @@ use Rattle.region.specs.Layout.{region_size}
 use Rattle.region.specs.Region.{image, view, good, Became}
 use Rattle.answers.specs.declared.Verdict.{Verdict}
 use Rattle.answers.specs.Answers.{answer_by}
+use Rattle.answers.proofs.Apart.{ends}
 use Rattle.calls.specs.Call.{start_from, reply_to, reply_to_record, Replied}
 use Rattle.calls.proofs.Replies.{refuses, bad_region, says_done}
 
@@ -49,7 +50,7 @@ module _ (k : ℕ) (r : List ℕ) where
     pub start_done : (v : Verdict) (s : WriteReflog) (r' : List ℕ) → o ≡ Some s → r' ≡ image (empty s) → answer_by v ≡ answer 0 []
         → Replied (Ok v) r r' (reply_to (start k) r)
     unfolding started answer_of
-    start_done v s r' h i a = rw (starts, ← is, h) (record { answer = a; region = i })
+    start_done v s r' h i a = rw (starts, ← is, h) (record { answer = a; apart = ends v _ refl a; region = i })
 
 -- ---- start with a record
 

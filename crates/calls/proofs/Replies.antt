@@ -14,12 +14,13 @@ use Rattle.model.specs.Fine.{Fine}
 use Rattle.model.specs.Reply.{Call, Reply, Given}
 use Rattle.model.specs.Reply.Reply.{done, refused}
 use Rattle.model.specs.Calls.{step}
-use Rattle.model.specs.Numbers.{answer, answer_of, given_places}
+use Rattle.model.specs.Numbers.{answer, answer_of, given_places, refusal_answer}
 use Rattle.model.proofs.Binds.{refuse_pass, refuse_is}
 use Rattle.region.specs.Region.{view, decode, good, name_offset, Laid, Became}
 use Rattle.region.proofs.Decode.{decode_good, decode_bad, good_parts, laid, laid_image, became_image}
 use Rattle.answers.specs.declared.Verdict.{Verdict}
-use Rattle.answers.specs.Answers.{answer_by}
+use Rattle.answers.specs.Answers.{answer_by, answered, is_apart}
+use Rattle.answers.proofs.Apart.{one_result, ends}
 use Rattle.calls.specs.Call.{sized, is_start, found, step_on, reply_to, Replied}
 
 -- a good region is laid out so
@@ -35,7 +36,7 @@ good_fine r ok is y = (good_parts r (sym is ∙ not-false ok y)).1
 -- a refusal, with the region as it is
 pub refuses : (reply : Reply) (r : List ℕ) (x : Refusal) → reply ≡ refused x → Replied (Err x) r r reply
 unfolding answer_of
-refuses reply r x e = rw e (record { answer = refl; region = refl })
+refuses reply r x e = rw e (record { answer = refl; apart = refl; region = refl })
 
 module _ (c : Call) (r : List ℕ) (ok : Bool) (is : ok ≡ good r) (looks : is_start c ≡ false) where
   finds : found c r ≡ decode r
@@ -57,13 +58,13 @@ module _ (c : Call) (r : List ℕ) (ok : Bool) (is : ok ≡ good r) (looks : is_
     pub says_done : (v : Verdict) (s : Store) (g : Given) (r' : List ℕ) → step c (view r) ≡ done s g
         → answer_by v ≡ answer 0 (given_places name_offset s g) → Became r' s → Replied (Ok v) r r' (reply_to c r)
     unfolding answer_of
-    says_done v s g r' e a b = rw (replies, e) (record { answer = a; region = became_image r' s b })
+    says_done v s g r' e a b = rw (replies, e) (record { answer = a; apart = ends v _ refl a; region = became_image r' s b })
 
     -- done, and the store is as it was
     pub says_read : (v : Verdict) (g : Given) → step c (view r) ≡ done (view r) g
         → answer_by v ≡ answer 0 (given_places name_offset (view r) g) → Replied (Ok v) r r (reply_to c r)
     unfolding answer_of
-    says_read v g e a = rw (replies, e) (record { answer = a; region = (laid_image r (good_laid r ok is y)).0 })
+    says_read v g e a = rw (replies, e) (record { answer = a; apart = ends v _ refl a; region = (laid_image r (good_laid r ok is y)).0 })
 
 -- ---- the ways out by `?`
 
@@ -79,6 +80,12 @@ handed v u = let p = err_from_is_err_and v u in p.1 ∙ ap Err p.2
 pub handed_up : {x : Refusal} {v : Result Verdict Refusal} {r r' : List ℕ} {reply : Reply} → IsErrAnd v (λ (e : Refusal). e ≡ x) → Replied (Err x) r r' reply
     → Replied v r r' reply
 handed_up {v = v} {r = r} {r' = r'} {reply = reply} u d = subst (λ (v : Result Verdict Refusal). Replied v r r' reply) (sym (handed v u)) d
+
+-- any result that answers as a refusal does is that refusal, so what is answered by the one is answered by the other
+pub refuses_as : {x : Refusal} {v : Result Verdict Refusal} {r r' : List ℕ} {reply : Reply} → is_apart v ≡ true → answered v ≡ refusal_answer x
+    → Replied (Err x) r r' reply → Replied v r r' reply
+refuses_as {x = x} {v = v} {r = r} {r' = r'} {reply = reply} p a d =
+    subst (λ (v : Result Verdict Refusal). Replied v r r' reply) (sym (one_result v (Err x) p refl a)) d
 
 -- and so is the one that `ok_or` gives where nothing is there
 module _ {A : Type 0} {o : Option A} {w : Result A Refusal} {x y : Refusal} (e : w ≡ ok_or o x) (h : w ≡ Err y) where

@@ -17,7 +17,7 @@ use Rattle.receiver.specs.Receiver.{closing, closed}
 use Rattle.region.specs.Layout.{region_size}
 use Rattle.region.specs.Region.{image, decode, name_offset}
 use Rattle.answers.specs.declared.Verdict.{Verdict}
-use Rattle.answers.specs.Answers.{record_of, answered}
+use Rattle.answers.specs.Answers.{record_of, answered, is_apart}
 
 -- ---- a call on a region
 
@@ -166,25 +166,29 @@ pub record Did (o : Out) (n : ℕ) (a : List ℕ) (buffers : List (List ℕ)) : 
 
 -- ---- below the exports
 
--- the contract of the function on plain values below each exported call on a region
+-- the contract of the function on plain values below each exported call on a region: what it answers, and a refusal as an error
 pub record Replied (v : Result Verdict Refusal) (r r' : List ℕ) (reply : Reply) : Type 0 where
   pub answer : answered v ≡ answer_of name_offset reply
+  pub apart : is_apart v ≡ true
   pub region : r' ≡ region_after reply r
 
 -- and below closing, with the receiver too
 pub record Closed (v : Result Verdict Refusal) (r r' b b' : List ℕ) (mode : ℕ) : Type 0 where
   pub answer : answered v ≡ answer_of name_offset (reply_to_closing b mode r)
+  pub apart : is_apart v ≡ true
   pub region : r' ≡ region_after (reply_to_closing b mode r) r
   pub receiver : b' ≡ closed b
 
 -- and below writing the packed table's text, which leaves the region
 pub record Wrote (v : Result Verdict Refusal) (r b b' : List ℕ) : Type 0 where
   pub answer : answered v ≡ answer_of name_offset (reply_to_writing b r)
+  pub apart : is_apart v ≡ true
   pub buffer : b' ≡ buffer_after (reply_to_writing b r) b
 
 -- and below each of those on another buffer
 pub record Keeps (v : Result Verdict Refusal) (b' : List ℕ) (k : Kept) : Type 0 where
   pub answer : answered v ≡ k.answer
+  pub apart : is_apart v ≡ true
   pub buffer : b' ≡ k.buffer
 
 -- ---- the bytes of a name, handed back as a part of the region: what stands at the offset and length that name_bytes answers. A

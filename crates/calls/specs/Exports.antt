@@ -12,7 +12,6 @@ use Rattle.model.specs.Reached.{Reached}
 use Rattle.model.specs.Locks.{placing, lifting, did_before}
 use Rattle.region.specs.Region.{decode}
 use Rattle.answers.specs.declared.Verdict.{Verdict}
-use Rattle.answers.specs.Answers.{verdict_of}
 use Rattle.calls.specs.Call.{Out, out_of, call, start_call, close_call, write_call, Kept, Wrote, Did, Replied, Keeps, name_part}
 
 -- ---- determined: two results that satisfy the contract of an exported call are equal, whatever it says is to come out
@@ -24,21 +23,21 @@ Determined =
     → Did o n' a₂ lent₂
     → (n ≡ n') × (a₁ ≡ a₂) × (lent₁ ≡ lent₂)
 
--- so are the verdicts of two results of the functions below the exports
+-- so are two results of the functions below the exports
 abbrev pub BelowDetermined : Type 0
 BelowDetermined =
     (reply : Reply) (r : List ℕ) (v v' : Result Verdict Refusal) (r₁ r₂ : List ℕ)
     → Replied v r r₁ reply
     → Replied v' r r₂ reply
-    → (verdict_of v ≡ verdict_of v') × (r₁ ≡ r₂)
+    → (v ≡ v') × (r₁ ≡ r₂)
 
 abbrev pub WroteDetermined : Type 0
 WroteDetermined =
-    (r b : List ℕ) (v v' : Result Verdict Refusal) (b₁ b₂ : List ℕ) → Wrote v r b b₁ → Wrote v' r b b₂ → (verdict_of v ≡ verdict_of v') × (b₁ ≡ b₂)
+    (r b : List ℕ) (v v' : Result Verdict Refusal) (b₁ b₂ : List ℕ) → Wrote v r b b₁ → Wrote v' r b b₂ → (v ≡ v') × (b₁ ≡ b₂)
 
 abbrev pub KeepsDetermined : Type 0
 KeepsDetermined =
-    (k : Kept) (v v' : Result Verdict Refusal) (b₁ b₂ : List ℕ) → Keeps v b₁ k → Keeps v' b₂ k → (verdict_of v ≡ verdict_of v') × (b₁ ≡ b₂)
+    (k : Kept) (v v' : Result Verdict Refusal) (b₁ b₂ : List ℕ) → Keeps v b₁ k → Keeps v' b₂ k → (v ≡ v') × (b₁ ≡ b₂)
 
 -- the contract of the function that returns the part of a name
 abbrev pub PartDetermined : Type 0

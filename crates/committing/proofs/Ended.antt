@@ -19,6 +19,7 @@ use Rattle.region.proofs.Read.{is_prepared_lem, not_prepared}
 use Rattle.region.proofs.Decode.{became_image}
 use Rattle.answers.specs.declared.Verdict.{Verdict}
 use Rattle.answers.specs.Answers.{answer_by}
+use Rattle.answers.proofs.Apart.{ends}
 use Rattle.calls.specs.Call.{reply_to, Replied}
 use Rattle.calls.proofs.Replies.{refuses, replies, says_no}
 use Rattle.committing.specs.declared.Halt.{Halt}
@@ -41,9 +42,9 @@ module _ (h : Option Halt) (m : ℕ) (v : Verdict) (why : Halt) (is : h ≡ Some
 -- a run that is over, with its locks freed
 over : (h : Option Halt) (z : Run) (r r' : List ℕ) (v : Verdict) → answer_by v ≡ answer (halt_number h) (z.made ∷ []) → Became r' (released z.store) → Replied (Ok v) r r' (ended z (stop_of h))
 unfolding answer_of
-over None z r r' v a b = record { answer = a; region = became_image r' _ b }
-over (Some NoCommitter) z r r' v a b = record { answer = a; region = became_image r' _ b }
-over (Some UsedUp) z r r' v a b = record { answer = a; region = became_image r' _ b }
+over None z r r' v a b = record { answer = a; apart = ends v _ refl a; region = became_image r' _ b }
+over (Some NoCommitter) z r r' v a b = record { answer = a; apart = ends v _ refl a; region = became_image r' _ b }
+over (Some UsedUp) z r r' v a b = record { answer = a; apart = ends v _ refl a; region = became_image r' _ b }
 
 pub commit_over : (c k : ℕ) (r r₁ r₂ : List ℕ) (a : Ran) (v : Verdict) → c ≤ 65535 → is_prepared (view r).prepared ≡ true
     → RanOut (committing (by c) k (view r)) a r₁ → Became r₂ (released (view r₁)) → answer_by v ≡ answer (halt_number a.stop) (a.made ∷ [])

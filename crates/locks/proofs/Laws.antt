@@ -27,6 +27,7 @@ use Rattle.region.specs.Region.{view, good, Became}
 use Rattle.region.proofs.Decode.{became_image}
 use Rattle.answers.specs.declared.Verdict.{Verdict}
 use Rattle.answers.specs.Answers.{answer_by}
+use Rattle.answers.proofs.Apart.{ends}
 use Rattle.calls.specs.Call.{is_start, reply_to, Replied}
 use Rattle.calls.proofs.Replies.{refuses, replies, handed, nothing}
 use Rattle.calls.proofs.Known.{is_far, is_below}
@@ -114,7 +115,7 @@ module _ (must becomes : Lock) (kind n : ℕ) (r : List ℕ) (o : Result Lockabl
     pub relock_done : (x : Verdict) (r' : List ℕ) → b ≡ false → Became r' (set_lock what becomes (view r)) → answer_by x ≡ answer 0 []
         → Replied (Ok x) r r' (relocked must becomes kind n (view r))
     unfolding relocked answer_of
-    relock_done x r' y d a = rw (← is, h, ← el, same true (not-false _ (sym eb ∙ y))) (record { answer = a; region = became_image r' _ d })
+    relock_done x r' y d a = rw (← is, h, ← el, same true (not-false _ (sym eb ∙ y))) (record { answer = a; apart = ends x _ refl a; region = became_image r' _ d })
 
 -- on a good region the call is the model's step
 module _ (kind n : ℕ) (r r' : List ℕ) (ok : Bool) (is : ok ≡ good r) (y : not ok ≡ false) (x : Result Verdict Refusal) where

@@ -23,7 +23,8 @@ use Rattle.ordering.specs.Order.{first_at, Ordered}
 use Rattle.region.specs.Region.{view, good, name_offset}
 use Rattle.region.proofs.Decode.{decode_bad}
 use Rattle.answers.specs.declared.Verdict.{Verdict}
-use Rattle.answers.specs.Answers.{answer_by, answered}
+use Rattle.answers.specs.Answers.{answer_by, answered, is_apart}
+use Rattle.answers.proofs.Apart.{ends}
 use Rattle.calls.specs.Call.{step_on, reply_to, reply_to_writing, buffer_after, Wrote}
 use Rattle.calls.proofs.Replies.{replies}
 use Rattle.calls.proofs.Texts.{text_fits, text_short}
@@ -54,17 +55,19 @@ module _ (s : Store) (numbers : List ℕ) (held : ℕ) (o : Ordered s 0 numbers 
 -- ---- each way out
 
 -- writing comes to this reply, and leaves this buffer
-wrote_so : (v : Result Verdict Refusal) (r b b' : List ℕ) (reply : Reply) → reply_to_writing b r ≡ reply → answered v ≡ answer_of name_offset reply → b' ≡ buffer_after reply b
+wrote_so : (v : Result Verdict Refusal) (r b b' : List ℕ) (reply : Reply) → reply_to_writing b r ≡ reply → answered v ≡ answer_of name_offset reply → is_apart v ≡ true
+    → b' ≡ buffer_after reply b
     → Wrote v r b b'
-wrote_so v r b b' reply e a q = record {
+wrote_so v r b b' reply e a p q = record {
   answer = a ∙ ap (answer_of name_offset) (sym e);
+  apart = p;
   buffer = q ∙ ap (λ (x : Reply). buffer_after x b) (sym e);
 }
 
 module _ (r b : List ℕ) (ok : Bool) (is : ok ≡ good r) where
   pub write_bad : not ok ≡ true → Wrote (Err BadRegion) r b b
   unfolding reply_to_writing reply_to answer_of
-  write_bad n = wrote_so (Err BadRegion) r b b (refused BadRegion) (ap (step_on (write_packed (length b))) (decode_bad r (sym is ∙ not-true ok n))) refl refl
+  write_bad n = wrote_so (Err BadRegion) r b b (refused BadRegion) (ap (step_on (write_packed (length b))) (decode_bad r (sym is ∙ not-true ok n))) refl refl refl
 
   module _ (y : not ok ≡ false) where
     pub write_good : good r ≡ true
@@ -78,7 +81,7 @@ module _ (r b : List ℕ) (ok : Bool) (is : ok ≡ good r) where
       unfolding reply_to_writing answer_of
       write_short h =
           wrote_so (Err TextTooLong) r b b (refused TextTooLong)
-          (replies (write_packed (length b)) r ok is refl y ∙ text_short (view r) b (subst (λ (k : ℕ). length b < k) is_length h)) refl refl
+          (replies (write_packed (length b)) r ok is refl y ∙ text_short (view r) b (subst (λ (k : ℕ). length b < k) is_length h)) refl refl refl
 
       pub write_room : n ≤ length b → lengths (first_at (view r) held numbers) ≤ length b
       write_room h = subst (λ (k : ℕ). k ≤ length b) e h
@@ -91,4 +94,5 @@ module _ (r b : List ℕ) (ok : Bool) (is : ok ≡ good r) where
           wrote_so (Ok v) r b b' (done (view r) (written (packed_text (view r))))
           (replies (write_packed (length b)) r ok is refl y ∙ text_fits (view r) b (subst (λ (k : ℕ). k ≤ length b) is_length h))
           (a ∙ ap (λ (k : ℕ). answer 0 (k ∷ [])) is_length)
+          (ends v _ refl a)
           (q ∙ ap₂ (λ (t : List ℕ) (k : ℕ). t ++ drop k b) (text_is (view r) numbers held o) (length_is (view r) numbers held o))

@@ -46,6 +46,7 @@ use Rattle.edits.specs.Edits.{edits_in, Registered}
 use Rattle.edits.proofs.Numbers.{is_in}
 use Rattle.answers.specs.declared.Verdict.{Verdict}
 use Rattle.answers.specs.Answers.{answer_by}
+use Rattle.answers.proofs.Apart.{ends}
 use Rattle.calls.specs.Call.{reply_to, Replied}
 use Rattle.calls.proofs.Replies.{replies, says_no}
 use Rattle.preparing.specs.Rows.{names_judged, turns_judged, split_judged, judged_rows, list_judged, Begun, names_held, table_held, prepared_with}
@@ -202,7 +203,7 @@ module _ (r₀ r₂ list : List ℕ) (mode : PackedRefs) (j : (Result (Unit {0})
   refused_back r₃ why l idle e c =
       subst (λ (o : Result (List Edit) Refusal). Replied (Err why) r₀ r₃ (prepared_with mode (view r₀) o))
       (ap (λ (j : (Result (Unit {0}) Refusal)). outcome_by j rows) (sym e) ∙ w.whole)
-      (record { answer = refl; region = became_image r₃ _ c ∙ ap image back ∙ sym (laid_image r₀ l).0 })
+      (record { answer = refl; apart = refl; region = became_image r₃ _ c ∙ ap image back ∙ sym (laid_image r₀ l).0 })
     where
       back : with_prepared (view r₂) None ≡ view r₀
       back = ap (λ (u : Store). with_prepared u None) w.seen ∙ ap (with_prepared (view r₀)) (sym idle)
@@ -220,6 +221,7 @@ module _ (r₀ r₂ list : List ℕ) (mode : PackedRefs) (j : (Result (Unit {0})
         subst (λ (o : Result (List Edit) Refusal). Replied (Ok v) r₀ r₃ (prepared_with mode (view r₀) o)) (sym passed_as)
         (record {
           answer = h.0;
+          apart = ends v _ refl h.0;
           region = became_image r₃ _ h.1 ∙ ap image (ap (λ (u : Store). names_held (table_held u)) w.seen ∙ held_is (view r₀) mode rows);
         })
 
@@ -247,7 +249,7 @@ module _ (r list : List ℕ) (mode : PackedRefs) (n : ℕ) (x : Option ℕ) (en 
 
   pub list_out : (i : ℕ) → x ≡ Some i → Replied (Err (NotRegistered i)) r r (prepared_with mode (view r) (list_judged (view r) mode (edits_in list)))
   unfolding answer_of list_judged registered
-  list_out i p = rw (sym out_is ∙ p) (record { answer = refl; region = refl })
+  list_out i p = rw (sym out_is ∙ p) (record { answer = refl; apart = refl; region = refl })
 
   pub list_done : (r' : List ℕ) (v : Result Verdict Refusal) → x ≡ None → Replied v r r' (prepared_with mode (view r) (judged_rows (view r) mode (edits_in list)))
       → Replied v r r' (prepared_with mode (view r) (list_judged (view r) mode (edits_in list)))
@@ -262,7 +264,7 @@ formed_is list b eb h = sym eb ∙ not-false b h
 module _ (list r : List ℕ) (k : ℕ) (idle : (view r).prepared ≡ None) (b : Bool) (eb : b ≡ is_some (edits_of list)) where
   no_way : (x : Refusal) → step (prepare list k) (view r) ≡ refused x → Replied (Err x) r r (step (prepare list k) (view r))
   unfolding answer_of
-  no_way x e = rw e (record { answer = refl; region = refl })
+  no_way x e = rw e (record { answer = refl; apart = refl; region = refl })
 
   pub idle_unformed : not b ≡ true → Replied (Err Malformed) r r (step (prepare list k) (view r))
   idle_unformed h = no_way Malformed (unformed list k (view r) (ap is_prepared idle) (none_in (edits_of list) (sym eb ∙ not-true b h)))

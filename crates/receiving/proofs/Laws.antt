@@ -14,7 +14,8 @@ use Rattle.model.specs.Reply.Reply.{refused}
 use Rattle.model.specs.Reply.Call.{prepare}
 use Rattle.model.specs.Numbers.{answer, answer_of}
 use Rattle.answers.specs.declared.Verdict.{Verdict}
-use Rattle.answers.specs.Answers.{answer_by, answered}
+use Rattle.answers.specs.Answers.{answer_by, answered, is_apart}
+use Rattle.answers.proofs.Apart.{ends}
 use Rattle.receiver.specs.Receiver.{capacity, receiver_size, holding, fresh, held, is_receiver, freshened, taken, closing, closed, Good}
 use Rattle.receiver.proofs.Image.{held_holding, is_good, good_room}
 use Rattle.region.specs.Region.{name_offset}
@@ -44,20 +45,20 @@ module _ (b : List ℕ) (ok : Bool) (is : ok ≡ is_receiver b) (y : not ok ≡ 
 -- ---- whatever the receiver comes to is kept so
 
 kept_so : (c : ReceiverCall) (b b' : List ℕ) (v : Result Verdict Refusal) (o : Result (List ℕ) Refusal) → receiver_of c b ≡ o → answered v ≡ (kept_as c o b).answer
-    → b' ≡ (kept_as c o b).buffer → Keeps v b' (received c b)
+    → is_apart v ≡ true → b' ≡ (kept_as c o b).buffer → Keeps v b' (received c b)
 unfolding received
-kept_so c b b' v o e a h = rw e (record { answer = a; buffer = h })
+kept_so c b b' v o e a p h = rw e (record { answer = a; apart = p; buffer = h })
 
 -- ---- a fresh one
 
 pub fresh_size : (b : List ℕ) → (length b ≡ receiver_size → ⊥) → Keeps (Err BadRegion) b (received fresh_receiver b)
 unfolding receiver_of freshened
-fresh_size b h = kept_so fresh_receiver b b (Err BadRegion) (Err BadRegion) (rw (ne_eqb (length b) receiver_size h)) refl refl
+fresh_size b h = kept_so fresh_receiver b b (Err BadRegion) (Err BadRegion) (rw (ne_eqb (length b) receiver_size h)) refl refl refl
 
 pub fresh_done : (b b' : List ℕ) (v : Verdict) → length b ≡ receiver_size → b' ≡ fresh → answer_by v ≡ answer 0 []
     → Keeps (Ok v) b' (received fresh_receiver b)
 unfolding receiver_of freshened
-fresh_done b b' v h f a = kept_so fresh_receiver b b' (Ok v) (Ok fresh) (rw (eq-eqb (length b) receiver_size h)) a f
+fresh_done b b' v h f a = kept_so fresh_receiver b b' (Ok v) (Ok fresh) (rw (eq-eqb (length b) receiver_size h)) a (ends v _ refl a) f
 
 -- ---- a fragment
 
@@ -82,7 +83,7 @@ module _ (f b : List ℕ) where
 module _ (f b : List ℕ) (ok : Bool) (is : ok ≡ is_receiver b) where
   pub take_bad : not ok ≡ true → Keeps (Err BadRegion) b (received (take_fragment f) b)
   unfolding receiver_of
-  take_bad n = kept_so (take_fragment f) b b (Err BadRegion) (Err BadRegion) (taken_bad f b (sym is ∙ not-true ok n)) refl refl
+  take_bad n = kept_so (take_fragment f) b b (Err BadRegion) (Err BadRegion) (taken_bad f b (sym is ∙ not-true ok n)) refl refl refl
 
   module _ (y : not ok ≡ false) (p : List ℕ) (e : p ≡ held b) where
     good : is_receiver b ≡ true
@@ -92,7 +93,7 @@ module _ (f b : List ℕ) (ok : Bool) (is : ok ≡ is_receiver b) where
     unfolding receiver_of
     take_full h =
         let l : length p ≡ length (held b) = ap length e in
-        kept_so (take_fragment f) b b (Err ReceiverFull) (Err ReceiverFull) (taken_full f b good (omega arith)) refl refl
+        kept_so (take_fragment f) b b (Err ReceiverFull) (Err ReceiverFull) (taken_full f b good (omega arith)) refl refl refl
 
     pub take_done : (b' : List ℕ) (v : Verdict) → length f ≤ capacity - length p → b' ≡ holding (held b ++ f) → answer_by v ≡ answer 0 ((length p + length f) ∷ [])
         → Keeps (Ok v) b' (received (take_fragment f) b)
@@ -103,7 +104,7 @@ module _ (f b : List ℕ) (ok : Bool) (is : ok ≡ is_receiver b) where
         let s : length (held b) + length f ≤ capacity = omega arith in
         let t : length p + length f ≡ length (held (holding (held b ++ f))) = rw (held_then f b good s, length-append, l) in
         kept_so (take_fragment f) b b' (Ok v) (Ok (holding (held b ++ f))) (taken_done f b good s)
-        (a ∙ ap (λ (n : ℕ). answer 0 (n ∷ [])) t) i
+        (a ∙ ap (λ (n : ℕ). answer 0 (n ∷ [])) t) (ends v _ refl a) i
 
 -- ---- closing
 
@@ -129,6 +130,7 @@ closed_so : (b b' r r' : List ℕ) (mode : ℕ) (v : Result Verdict Refusal) (re
 closed_so b b' r r' mode v reply e c d =
     record {
       answer = d.answer ∙ ap (answer_of name_offset) (sym e);
+      apart = d.apart;
       region = d.region ∙ ap (λ (reply : Reply). region_after reply r) (sym e);
       receiver = sym c;
     }
@@ -138,7 +140,7 @@ module _ (b : List ℕ) (mode : ℕ) (r : List ℕ) (ok : Bool) (is : ok ≡ is_
   unfolding answer_of
   close_bad n =
       let bad : is_receiver b ≡ false = sym is ∙ not-true ok n in
-      closed_so b b r r mode (Err BadRegion) (refused BadRegion) (closing_bad b mode r bad) (closed_bad b bad) (record { answer = refl; region = refl })
+      closed_so b b r r mode (Err BadRegion) (refused BadRegion) (closing_bad b mode r bad) (closed_bad b bad) (record { answer = refl; apart = refl; region = refl })
 
   pub close_done : (v : Result Verdict Refusal) (p r' b' : List ℕ) → not ok ≡ false → p ≡ held b → Replied v r r' (reply_to (prepare p mode) r) → b' ≡ fresh
       → Closed v r r' b b' mode

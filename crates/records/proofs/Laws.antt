@@ -18,7 +18,8 @@ use Rattle.reader.specs.declared.Stretch.{Stretch}
 use Rattle.reader.specs.Reading.{told, stretch_of, committer_found, stretch_in}
 use Rattle.scribe.specs.Writing.{length_in, Wrote}
 use Rattle.answers.specs.declared.Verdict.{Verdict}
-use Rattle.answers.specs.Answers.{answer_by, answered}
+use Rattle.answers.specs.Answers.{answer_by, answered, is_apart}
+use Rattle.answers.proofs.Apart.{ends}
 use Rattle.calls.specs.Call.{Keeps}
 use Rattle.records.specs.Record.{settings_answer, committer_answer, write_answer, kept, stretch, committer_part}
 use Rattle.records.specs.Record.RecordCall.{read_settings, read_committer, write_settings}
@@ -30,20 +31,20 @@ summary_answer (Err x) = refusal_answer x
 summary_answer (Ok m) = answer 0 (m.log ∷ m.mode ∷ m.site ∷ m.committers ∷ [])
 
 module _ (known : ℕ) (b : List ℕ) (o : Result Summary Refusal) (e : o ≡ told (read known b)) where
-  settings_so : (v : Result Verdict Refusal) → answered v ≡ summary_answer o → Keeps v b (kept (read_settings known) b)
+  settings_so : (v : Result Verdict Refusal) → answered v ≡ summary_answer o → is_apart v ≡ true → Keeps v b (kept (read_settings known) b)
   unfolding kept
-  settings_so v a = record { answer = a ∙ ap summary_answer e ∙ go (read known b); buffer = refl }
+  settings_so v a p = record { answer = a ∙ ap summary_answer e ∙ go (read known b); apart = p; buffer = refl }
     where
       go : (w : Result Settings Refusal) → summary_answer (told w) ≡ settings_answer w
       go (Err x) = refl
       go (Ok s) = refl
 
   pub settings_refused : (x : Refusal) → o ≡ Err x → Keeps (Err x) b (kept (read_settings known) b)
-  settings_refused x h = settings_so (Err x) (ap summary_answer (sym h))
+  settings_refused x h = settings_so (Err x) (ap summary_answer (sym h)) refl
 
   pub settings_read : (v : Verdict) (m : Summary) → o ≡ Ok m → answer_by v ≡ answer 0 (m.log ∷ m.mode ∷ m.site ∷ m.committers ∷ [])
       → Keeps (Ok v) b (kept (read_settings known) b)
-  settings_read v m h a = settings_so (Ok v) (a ∙ ap summary_answer (sym h))
+  settings_read v m h a = settings_so (Ok v) (a ∙ ap summary_answer (sym h)) (ends v _ refl a)
 
 -- ---- reading a committer
 
@@ -62,16 +63,16 @@ found_answer i (Ok s) = go (ltb i (length s.committers))
     go false = refl
 
 module _ (known i : ℕ) (b : List ℕ) (o : Result Stretch Refusal) (e : o ≡ committer_found i (read known b)) where
-  committer_so : (v : Result Verdict Refusal) → answered v ≡ stretch_answer o → Keeps v b (kept (read_committer known i) b)
+  committer_so : (v : Result Verdict Refusal) → answered v ≡ stretch_answer o → is_apart v ≡ true → Keeps v b (kept (read_committer known i) b)
   unfolding kept
-  committer_so v a = record { answer = a ∙ ap stretch_answer e ∙ found_answer i (read known b); buffer = refl }
+  committer_so v a p = record { answer = a ∙ ap stretch_answer e ∙ found_answer i (read known b); apart = p; buffer = refl }
 
   pub committer_refused : (x : Refusal) → o ≡ Err x → Keeps (Err x) b (kept (read_committer known i) b)
-  committer_refused x h = committer_so (Err x) (ap stretch_answer (sym h))
+  committer_refused x h = committer_so (Err x) (ap stretch_answer (sym h)) refl
 
   pub committer_found_lem : (v : Verdict) (s : Stretch) → o ≡ Ok s → answer_by v ≡ answer 0 (s.number ∷ s.at ∷ s.length ∷ 0 ∷ [])
       → Keeps (Ok v) b (kept (read_committer known i) b)
-  committer_found_lem v s h a = committer_so (Ok v) (a ∙ ap stretch_answer (sym h))
+  committer_found_lem v s h a = committer_so (Ok v) (a ∙ ap stretch_answer (sym h)) (ends v _ refl a)
 
 -- a reader refuses with these two numbers alone
 pub read_cases : (P : Result Settings Refusal → Type 0) (known : ℕ) (b : List ℕ) → P (Err UnknownVersion) → P (Err MalformedRecord)
@@ -116,16 +117,16 @@ length_answer (Err x) = refusal_answer x
 length_answer (Ok n) = answer 0 (n ∷ [])
 
 module _ (version : ℕ) (given : Option Settings) (b b' : List ℕ) (w : Result ℕ Refusal) (d : Wrote w b b' (write_given version given)) where
-  write_so : (v : Result Verdict Refusal) → answered v ≡ length_answer w → Keeps v b' (kept (write_settings version given) b)
+  write_so : (v : Result Verdict Refusal) → answered v ≡ length_answer w → is_apart v ≡ true → Keeps v b' (kept (write_settings version given) b)
   unfolding kept
-  write_so v a = record { answer = a ∙ ap length_answer d.told ∙ go (fitted b (write_given version given)); buffer = d.left }
+  write_so v a p = record { answer = a ∙ ap length_answer d.told ∙ go (fitted b (write_given version given)); apart = p; buffer = d.left }
     where
       go : (o : Result (List ℕ) Refusal) → length_answer (length_in o) ≡ write_answer o
       go (Err x) = refl
       go (Ok r) = refl
 
   pub write_refused : (x : Refusal) → w ≡ Err x → Keeps (Err x) b' (kept (write_settings version given) b)
-  write_refused x h = write_so (Err x) (ap length_answer (sym h))
+  write_refused x h = write_so (Err x) (ap length_answer (sym h)) refl
 
   pub write_written : (v : Verdict) (n : ℕ) → w ≡ Ok n → answer_by v ≡ answer 0 (n ∷ []) → Keeps (Ok v) b' (kept (write_settings version given) b)
-  write_written v n h a = write_so (Ok v) (a ∙ ap length_answer (sym h))
+  write_written v n h a = write_so (Ok v) (a ∙ ap length_answer (sym h)) (ends v _ refl a)
