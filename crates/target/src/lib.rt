@@ -5,7 +5,7 @@
 #![tactic(auto)]
 
 ghost use Rattle.std.specs.Prelude.{◌≡◌, ◌<◌, ◌≤◌};
-ghost use Rattle.target.specs.Target.{is_null, kind_of, try_id, try_name, is_object, is_symbolic};
+ghost use Rattle.target.specs.Target.{same, is_null, kind_of, try_id, try_name, is_object, is_symbolic};
 ghost use Rattle.target.specs.Fields.{name_below, object_of, target_byte, target_number, place_number};
 ghost use Rattle.target.specs.Found.{value_in};
 
@@ -93,6 +93,13 @@ impl Target {
             Target::Symbolic(_) => Kind::Symbolic,
             Target::Object(_) => Kind::Object,
         }
+    }
+
+    // `==`, as the definition has it.
+    pub fn is_same(self, other: Target) -> bool
+        ensures { result ≡ same self other }
+    {
+        self == other
     }
 
     // True of the null id alone.

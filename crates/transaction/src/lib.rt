@@ -7,6 +7,7 @@ ghost use Rattle.transaction.specs.Change.{new_value, previous_value, previous_o
 ghost use Rattle.transaction.specs.Change.{expected_of, log_change, is_log_only, is_delete, matched, existing_in};
 ghost use Rattle.transaction.specs.Fields.{ref_log_byte, ref_log_of, previous_byte, previous_of, change_byte};
 ghost use Rattle.transaction.specs.Fields.{packed_refs_number, packed_refs_of};
+ghost use Rattle.transaction.specs.Same.{same_ref_log, same_log_change, same_previous, same_change, same_ref_edit};
 
 use target::{NameNumber, NoSuchNumber, ObjectNumber, Target};
 
@@ -22,6 +23,13 @@ impl RefLog {
     pub const AND_REFERENCE: u64 = 0;
 
     pub const ONLY: u64 = 1;
+
+    // `==`, as the definition has it; so it is below.
+    pub fn is_same(self, other: RefLog) -> bool
+        ensures { result ≡ same_ref_log self other }
+    {
+        self == other
+    }
 }
 
 impl TryFrom<u64> for RefLog {
@@ -56,6 +64,14 @@ pub struct LogChange {
     // Make a line even where the log setting alone would make none.
     pub force_create_reflog: bool,
     pub message: u16,
+}
+
+impl LogChange {
+    pub fn is_same(self, log: LogChange) -> bool
+        ensures { result ≡ same_log_change self log }
+    {
+        self == log
+    }
 }
 
 // What an edit expects of the value that it replaces.
@@ -127,6 +143,12 @@ impl PreviousValue {
             PreviousValue::MustExistAndMatch(t) => Some(t),
             _ => None,
         }
+    }
+
+    pub fn is_same(self, expected: PreviousValue) -> bool
+        ensures { result ≡ same_previous self expected }
+    {
+        self == expected
     }
 }
 
@@ -224,6 +246,13 @@ impl Change {
         };
         previous.try_id()
     }
+
+    #[tactic(auto, using(crate::proofs::Derived::change_same))]
+    pub fn is_same(self, change: Change) -> bool
+        ensures { result ≡ same_change self change }
+    {
+        self == change
+    }
 }
 
 // A change to a name. With `deref` it is made through the name's symbolic links.
@@ -248,6 +277,13 @@ impl RefEdit {
             name,
             deref,
         }
+    }
+
+    #[tactic(auto, using(crate::proofs::Derived::ref_edit_same))]
+    pub fn is_same(self, edit: RefEdit) -> bool
+        ensures { result ≡ same_ref_edit self edit }
+    {
+        self == edit
     }
 }
 

@@ -31,10 +31,10 @@ fn must_match(name: NameNumber, expected: Target, actual: Target) -> Result<(), 
 fn may_match(name: NameNumber, expected: Target, existing: Option<Target>) -> Result<(), Refusal>
     ensures { judged_option result ≡ judge_delete name (PreviousValue.ExistingMustMatch expected) existing }
 {
-    match existing {
-        None => Ok(()),
-        Some(actual) => must_match(name, expected, actual),
-    }
+    let Some(actual) = existing else {
+        return Ok(());
+    };
+    must_match(name, expected, actual)
 }
 
 fn judge_delete(
