@@ -1,4 +1,4 @@
--- The edits of a list that is well formed, and the code's own form of a number that may be missing.
+-- The edits of a list that is well formed, and such a list whose numbers are all of registered names.
 use Rattle.std.specs.Prelude.{◌≡◌, true, List, [], ℕ, ◌≤◌, None, unwrap_or}
 use Rattle.word.specs.Codec.{is_some}
 use Rattle.transaction.specs.declared.RefEdit.{RefEdit}

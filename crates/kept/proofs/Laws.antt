@@ -2,9 +2,11 @@
 use mathlib.Core.Path.{◌≡◌, refl, sym, ap, ◌∙◌}
 use mathlib.Core.Bool.{Bool, true, false, ◌&&◌, not}
 use mathlib.Core.List.{List}
-use Prim.Native.Nat.{ℕ, ◌+◌, ◌<◌, ◌≤◌}
+use Prim.Native.Nat.{ℕ, suc, ◌+◌, ◌<◌, ◌≤◌}
+use native.Mathlib.Numerals.{add-one}
 use native.Mathlib.Omega.{arith}
-use lib.ListN.{length}
+use lib.ListN.{length, get_or, drop, drop_of_length-le, length-append}
+use lib.Seq.{drop-cons}
 use lib.Dec.{eqb}
 use borrow.Author.Tests.{not-true, not-false}
 use Rattle.word.specs.Flags.{Flags}
@@ -13,7 +15,7 @@ use Rattle.target.specs.declared.NameNumber.{NameNumber}
 use Rattle.target.proofs.Places.{at_place}
 use Rattle.transaction.specs.declared.PackedRefs.{PackedRefs}
 use Rattle.transaction.specs.declared.Edit.{Edit}
-use Rattle.model.specs.Basic.{any, below}
+use Rattle.model.specs.Basic.{any, below, collect}
 use Rattle.model.specs.Store.{Store, rows_in, mode_in}
 use Rattle.model.specs.Rows.{name_in, keeps_lock}
 use Rattle.model.specs.Fine.{kept_for}
@@ -47,3 +49,22 @@ module _ (p : ℕ → Bool) (n : ℕ) (k : NameNumber) (r : Bool) (ek : k ≡ re
 
   pub all_stop : (m j : ℕ) → n < m → m ≡ j → not r ≡ true → false ≡ below j p
   all_stop m j l e t = sym (below_false j p n (rw e at l) (ap p (sym (at_place k n ek)) ∙ sym er ∙ not-true r t))
+
+-- ---- a sum over elements: so far, and what is left
+
+pub sum_start : (k : ℕ) → 0 + k ≡ k
+sum_start k = omega arith
+
+module _ {A B : Type 0} (f : A → List B) (xs : List A) (i n sum k : ℕ) (h : sum + length (collect f (drop i xs)) ≡ k) (e : n ≡ length xs) where
+  pub sum_more : (d x : A) (r : ℕ) → i < n → x ≡ get_or xs i d → r ≡ length (f x) → sum + r + length (collect f (drop (i + 1) xs)) ≡ k
+  sum_more d x r l ex er =
+      let b : i < length xs = rw e at l in
+      let g : length (f (get_or xs i d)) ≡ r = ap (λ (a : A). length (f a)) (sym ex) ∙ sym er in
+      let q : sum + (r + length (collect f (drop (suc i) xs))) ≡ k = rw (drop-cons xs i d b, length-append, g) at h in
+      rw add-one (omega arith)
+
+  pub sum_end : n ≤ i → sum ≡ k
+  sum_end l =
+      let b : length xs ≤ i = rw e at l in
+      let q : sum + 0 ≡ k = rw (drop_of_length-le xs b) at h in
+      omega arith

@@ -94,8 +94,6 @@ slot_change r = do
 unfoldable pub slot_parent : List ℕ → Option (Option ℕ)
 slot_parent r = parent_from (val (cut 26 1 r)) (val (cut 27 1 r))
 
--- ---- the code's own forms of what may be missing
-
 -- ---- a row that its bytes can hold
 
 abbrev pub FitsOption : Option Target → Type 0

@@ -98,10 +98,10 @@ fn settle(to: Option<NameNumber>, row: Edit) -> Edit
     ensures { result ≡ settled to row }
 {
     let change = row.update.change;
-    match to {
-        None => settled_with(change, row),
-        Some(_) => settled_with(parent_change(change), row),
-    }
+    let Some(_) = to else {
+        return settled_with(change, row);
+    };
+    settled_with(parent_change(change), row)
 }
 
 // R1: the child has the parent's change, on the name that the link names.
