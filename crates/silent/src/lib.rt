@@ -1,6 +1,8 @@
 // A runtime for programs that go on in silence: what cannot be written to standard output is let go.
 #![tactic(auto)]
 
+ghost use Rattle.std.specs.Prelude.{◌≡◌, Ok};
+
 use std::fmt::Display;
 use std::io;
 
@@ -9,20 +11,25 @@ pub struct Silent<R> {
     pub rt: R,
 }
 
+// Whatever came of the writing, the program goes on.
+fn let_go(written: io::Result<()>) -> io::Result<()>
+    ensures { result ≡ Ok tt }
+{
+    written.ok();
+    Ok(())
+}
+
 impl<R: Print> Print for Silent<R> {
     fn print<D: Display + Drop>(&self, value: D) -> io::Result<()> {
-        self.rt.print(value).ok();
-        Ok(())
+        let_go(self.rt.print(value))
     }
 
     fn println<D: Display + Drop>(&self, value: D) -> io::Result<()> {
-        self.rt.println(value).ok();
-        Ok(())
+        let_go(self.rt.println(value))
     }
 
     fn write_all(&self, bytes: &[u8]) -> io::Result<()> {
-        self.rt.write_all(bytes).ok();
-        Ok(())
+        let_go(self.rt.write_all(bytes))
     }
 }
 
