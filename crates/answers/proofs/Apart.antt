@@ -2,7 +2,7 @@
 -- Assumes nothing.
 use Rattle.std.specs.Prelude.{Result, Ok, Err}
 use mathlib.Core.Path.{◌≡◌, refl, sym, ap, ◌∙◌}
-use mathlib.Core.Bool.{Bool, true, false, cond, false≢true}
+use mathlib.Core.Bool.{true, false, cond, false≢true}
 use mathlib.Core.List.{List}
 use Prim.Native.Nat.{ℕ}
 use lib.ListN.{get_or}
@@ -14,7 +14,7 @@ use Rattle.model.specs.declared.Refusal.{Refusal}
 use Rattle.model.specs.declared.Refusal.TheVariants.{BadRegion, Malformed, NotRegistered, ReferenceCycle, TooManyRows, MultipleEdits, PackedTransactionAcquire, LockAcquire, DeleteReferenceMustExist, MustNotExist, MustExist, ReferenceOutOfDate, DeleteMustNotExist, LogFull, WrongState, BadName, NamesFull, WrongLock, BadLoad, NothingThere, MalformedRecord, UnknownVersion, NameConflict, ReceiverFull, MalformedLine, TextTooLong, ShortBuffer}
 use Rattle.model.specs.Numbers.{Answer, refusal_answer}
 use Rattle.answers.specs.declared.Verdict.{Verdict}
-use Rattle.answers.specs.Answers.{answered, is_ending, is_apart}
+use Rattle.answers.specs.Answers.{answer_by, answered, is_ending, is_apart}
 
 -- ---- from an answer to its refusal
 
@@ -133,16 +133,16 @@ no_ending ShortBuffer = refl
 verdict : Answer → Verdict
 verdict x = record { number = x.number; places = x.places }
 
-verdict_is : (v : Verdict) → verdict (answered (Ok v)) ≡ v
+pub one_verdict : (v v' : Verdict) → answer_by v ≡ answer_by v' → v ≡ v'
 unfolding verdict
-verdict_is v = refl
+one_verdict v v' e = ap verdict e
 
 other : (v : Verdict) (r : Refusal) → is_ending v.number ≡ true → answered (Ok v) ≡ refusal_answer r → ⊥
 other v r a e = false≢true (sym (no_ending r) ∙ ap (λ (x : Answer). is_ending x.number) (sym e) ∙ a)
 
 pub one_result : (v v' : Result Verdict Refusal) → is_apart v ≡ true → is_apart v' ≡ true → answered v ≡ answered v' → v ≡ v'
 unfolding told
-one_result (Ok v) (Ok v') a b e = ap Ok (sym (verdict_is v) ∙ ap verdict e ∙ verdict_is v')
+one_result (Ok v) (Ok v') a b e = ap Ok (one_verdict v v' e)
 one_result (Ok v) (Err r) a b e = absurd (other v r a e)
 one_result (Err r) (Ok v) a b e = absurd (other v r b (sym e))
 one_result (Err r) (Err q) a b e =

@@ -23,9 +23,7 @@ use Rattle.model.specs.Load.{setting_of, started}
 use Rattle.model.specs.PackedText.{packed_text}
 use Rattle.model.specs.Calls.{step, rows_prepared, text_written}
 use Rattle.model.specs.Prepare.{rows_for, held as holds}
-use Rattle.model.specs.Numbers.{Answer, answer_of, refusal_answer}
-use Rattle.answers.specs.declared.Verdict.{Verdict}
-use Rattle.answers.specs.Answers.{answer_by}
+use Rattle.model.specs.Numbers.{answer_of, refusal_answer}
 use Rattle.answers.proofs.Apart.{one_result}
 use Rattle.model.specs.Reached.{Reached, leaves}
 use Rattle.model.specs.Reached.Reached.{begun, after}
@@ -45,14 +43,6 @@ use Rattle.calls.specs.Exports.Got.{begun as got·begun, begun_with as got·begu
 
 pub determined : Determined
 determined o n n' a₁ a₂ lent₁ lent₂ d e = (d.code ∙ sym e.code, d.answer ∙ sym e.answer, d.lent ∙ sym e.lent)
-
--- a verdict is its answer
-verdict : Answer → Verdict
-verdict x = record { number = x.number; places = x.places }
-
-pub one_verdict : (v v' : Verdict) → answer_by v ≡ answer_by v' → v ≡ v'
-unfolding verdict
-one_verdict v v' e = ap verdict e
 
 pub below_determined : BelowDetermined
 below_determined reply r v v' r₁ r₂ d e = (one_result v v' d.apart e.apart (d.answer ∙ sym e.answer), d.region ∙ sym e.region)

@@ -3,7 +3,6 @@ use Rattle.model.specs.declared.Refusal.{Refusal}
 use Rattle.std.specs.Prelude.{◌≡◌, Bool, true, false, cond, List, [], ◌∷◌, ◌++◌, ℕ, length, get_or, drop, eqb, Option, Some, None, Result, Ok, Err}
 use Rattle.word.specs.Be.{cut}
 use Rattle.model.specs.declared.Refusal.TheVariants.{BadRegion}
-use Rattle.model.specs.declared.WriteReflog.{WriteReflog}
 use Rattle.model.specs.declared.WriteReflog.TheVariants.{Disable}
 use Rattle.model.specs.Store.{Store, empty}
 use Rattle.model.specs.Reply.{Call, Given, Reply}

@@ -1,7 +1,8 @@
 -- The derived `==` of an edit and of its parts is what the definitions of specs/Same.antt say.
 -- Assumes nothing.
 use mathlib.Core.Path.{◌≡◌, refl}
-use mathlib.Core.Bool.{Bool, true, false, ◌&&◌}
+use mathlib.Core.Bool.{Bool, ◌&&◌}
+use Rattle.std.proofs.Math.Bool.{and_assoc}
 use Rattle.target.specs.declared.Target.{Target}
 use Rattle.target.specs.declared.Target.TheVariants.{Object, Symbolic}
 use Rattle.target.specs.Target.{same}
@@ -25,12 +26,8 @@ use Rattle.transaction.specs.contracts.RefEditPartialEq.TheImpl as ref_edit
 of_two : {p p' q q' : Bool} → p ≡ p' → q ≡ q' → (p && q) ≡ (p' && q')
 of_two e f = cc
 
-grouped : (p q r : Bool) → (p && (q && r)) ≡ (p && q && r)
-grouped true q r = refl
-grouped false q r = refl
-
 of_three : {p p' q q' r r' : Bool} → p ≡ p' → q ≡ q' → r ≡ r' → (p && (q && r)) ≡ (p' && q' && r')
-of_three {p} {p'} {q} {q'} {r} {r'} e f g = let h = grouped p' q' r' in cc
+of_three {p} {p'} {q} {q'} {r} {r'} e f g = let h = and_assoc p' q' r' in cc
 
 pub target_same : (a b : Target) → (target.ghosts).eq a b ≡ same a b
 target_same (Object a) (Object b) = refl
